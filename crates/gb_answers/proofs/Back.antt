@@ -1,16 +1,16 @@
 -- From contents that a state of a folder shows back to those that an earlier state shows.
-use Rattle.std.specs.Prelude.{ℕ, ◌≡◌, ◌≤◌, ◌⊎◌, ◌++◌, false, List, [], ◌∷◌, Some, Ok, Err, length}
+use Rattle.std.specs.Prelude.{◌≡◌, ◌≤◌, ◌⊎◌, ◌++◌, false, List, [], ◌∷◌, Some, Ok, Err, length}
 use Rattle.std.proofs.Common.{refl, sym, subst, ap, ◌∙◌, inl, inr}
 use Rattle.gb_folder.specs.Answers.{WereListed, WereRead}
-use Rattle.gb_folder.specs.Calls.{Call, Lists, Reads, ReadsPart, Writes, Removes, IsPermitted, IsReachedBy, Requests, fault_of, no_change, none, then}
+use Rattle.gb_folder.specs.Calls.{Call, Lists, Reads, ReadsPart, Writes, Removes, IsPermitted, IsReachedBy, Requests, fault_of, no_change, none, then, Device}
 use Rattle.gb_folder.specs.Files.{Bytes, Contents, Place, Tearing, file_at, is_special_under, places_under}
 use Rattle.gb_folder.specs.Limits.{max_file}
 use Rattle.gb_folder.specs.Semantics.{Answers, AnswersAll}
 use Rattle.gb_folder.specs.declared.folder.FolderFault.{FolderFault}
 use Rattle.gb_folder.specs.declared.folder.FolderFault.TheVariants as folders
-use Rattle.gb_task.specs.Ran.{AreAnswered}
 use Rattle.gb_logged.specs.Logged.{LogsCalls}
 use Rattle.gb_answers.specs.Answering.{AnswersSoundly, IsSound}
+use Rattle.gb_folder.specs.Device.{Leads}
 
 -- `Shows` relates the states of a folder to contents under which all of its calls are answered: a call that led
 -- to a state that shows contents came from one that shows the contents before the call.
@@ -29,20 +29,20 @@ reading_keeps leaves before after (ReadsPart place at len answer) permitted answ
 reading_keeps leaves before after (Writes place bytes limit answer) permitted answers = absurd permitted
 reading_keeps leaves before after (Removes place answer) permitted answers = absurd permitted
 
-module _ {F : Type 0} (failures : F → ℕ) (may_leave : F → Tearing) (allowed : F → Call → F → Type 0) (leaves : Tearing) (Shows : F → Contents → Type 0)
-    (are : AreAnswersOf allowed leaves Shows) where
+module _ {F : Type 0} (device : Device F) (leaves : Tearing) (Shows : F → Contents → Type 0)
+    (are : AreAnswersOf device.allowed leaves Shows) where
   -- calls that request no change came from a state that shows the same
-  unchanged : (old : F) {new : F} (contents : Contents) → IsReachedBy allowed no_change old new → Shows new contents → Shows old contents
+  unchanged : (old : F) {new : F} (contents : Contents) → IsReachedBy device.allowed no_change old new → Shows new contents → Shows old contents
   unchanged old contents none shows = shows
   unchanged old contents (then {mid = mid} call new led permitted is) shows =
       let from = are.back mid call new contents is shows in
       unchanged old contents led (subst (λ (c : Contents). Shows mid c) (sym (reading_keeps leaves from.0 contents call permitted from.2)) from.1)
 
-  pub back_unchanged : (old new : F) (contents : Contents) → Requests failures may_leave allowed no_change old new → Shows new contents → Shows old contents
+  pub back_unchanged : (old new : F) (contents : Contents) → Requests device no_change old new → Shows new contents → Shows old contents
   back_unchanged old new contents requests shows = unchanged old contents (requests.calls none) shows
 
   -- what was listed on the way to a state is what its contents have
-  pub listed_in : (old new : F) (contents : Contents) → Shows new contents → (root : Place) (places : List Place) → WereListed failures may_leave allowed old new root places
+  pub listed_in : (old new : F) (contents : Contents) → Shows new contents → (root : Place) (places : List Place) → WereListed device old new root places
       → (places ≡ places_under contents.files root) × (is_special_under contents root ≡ false)
   listed_in old new contents shows root places way =
       let from = are.back way.before (Lists root (Ok places)) way.after contents way.is (back_unchanged way.after new contents way.rest shows) in (
@@ -51,14 +51,14 @@ module _ {F : Type 0} (failures : F → ℕ) (may_leave : F → Tearing) (allowe
       )
 
   -- and what was read is what they have
-  pub read_in : (old new : F) (contents : Contents) → Shows new contents → (place : Place) (bytes : Bytes) → WereRead failures may_leave allowed old new place bytes
+  pub read_in : (old new : F) (contents : Contents) → Shows new contents → (place : Place) (bytes : Bytes) → WereRead device old new place bytes
       → (file_at contents.files place ≡ Some bytes) × (length bytes ≤ max_file)
   read_in old new contents shows place bytes way =
       let from = are.back way.before (Reads place max_file (Ok bytes)) way.after contents way.is (back_unchanged way.after new contents way.rest shows) in
       (ap (λ (c : Contents). file_at c.files place) from.2.1 ∙ from.2.0.0, from.2.0.1)
 
   -- calls that led to contents came from contents that answer them
-  pub back_calls : (old new : F) (calls : List Call) (after : Contents) → AreAnswered failures may_leave allowed old calls new → Shows new after
+  pub back_calls : (old new : F) (calls : List Call) (after : Contents) → Leads device old calls new → Shows new after
       → (before : Contents) × Shows old before × AnswersAll leaves before calls after
   back_calls old new [] after led shows = (after, subst (λ (f : F). Shows f after) led shows, refl)
   back_calls old new (call ∷ calls) after led shows =

@@ -16,7 +16,7 @@ use Rattle.gb_core.specs.Lists.{byte_order}
 use Rattle.gb_core.specs.Path.{is_task_path}
 use Rattle.gb_declare.specs.Registered.{registry_said}
 use Rattle.gb_exec.specs.Asking.{ExecutionsRequest}
-use Rattle.gb_folder.specs.Calls.{Call, Reads, Requests, no_change}
+use Rattle.gb_folder.specs.Calls.{Call, Reads, Requests, no_change, Device}
 use Rattle.gb_folder.specs.Files.{Bytes, Contents, Place, Tearing, file_at, is_blocked, is_own}
 use Rattle.gb_folder.specs.declared.folder.FolderFault.TheVariants as folders
 use Rattle.gb_folder.proofs.Free.{free_at}
@@ -78,27 +78,27 @@ recalled_among (m ∷ memory) path entry is c h =
 
 -- ---- What was read is what the contents have
 
-module _ {F : Type 0} (failures : F → ℕ) (may_leave : F → Tearing) (allowed : F → Call → F → Type 0) (leaves : Tearing) (Shows : F → Contents → Type 0)
-    (are : AreAnswersOf allowed leaves Shows) (old new : F) (contents : Contents) (shows : Shows new contents) where
-  found_in : (place : Place) (found : Option Bytes) → WasFound failures may_leave allowed old new place found
+module _ {F : Type 0} (device : Device F) (leaves : Tearing) (Shows : F → Contents → Type 0)
+    (are : AreAnswersOf device.allowed leaves Shows) (old new : F) (contents : Contents) (shows : Shows new contents) where
+  found_in : (place : Place) (found : Option Bytes) → WasFound device old new place found
       → (file_at contents.files place ≡ found) × (is_blocked contents.files place ≡ false)
   found_in place None found =
       let way = found.1 in
-      let from = are.back way.before (Reads place found.0 (Err folders.Missing)) way.after contents way.is (back_unchanged failures may_leave allowed leaves Shows are way.after new contents way.rest shows) in
+      let from = are.back way.before (Reads place found.0 (Err folders.Missing)) way.after contents way.is (back_unchanged device leaves Shows are way.after new contents way.rest shows) in
       (ap (λ (c : Contents). file_at c.files place) from.2.1 ∙ from.2.0.0, ap (λ (c : Contents). is_blocked c.files place) from.2.1 ∙ from.2.0.1)
   found_in place (Some bytes) found =
       let way = found.1 in
-      let from = are.back way.before (Reads place found.0 (Ok bytes)) way.after contents way.is (back_unchanged failures may_leave allowed leaves Shows are way.after new contents way.rest shows) in
+      let from = are.back way.before (Reads place found.0 (Ok bytes)) way.after contents way.is (back_unchanged device leaves Shows are way.after new contents way.rest shows) in
       let exists : file_at contents.files place ≡ Some bytes = ap (λ (c : Contents). file_at c.files place) from.2.1 ∙ from.2.0.0 in
       (exists, free_at contents.files place bytes (are.sound new contents shows).folder exists)
 
   text_says : {X : Type 0} (SaysAs : Bytes → Result (List X) ScriptFault → Type 0) (place : Place) (said : List X)
-      → WasParsed failures may_leave allowed SaysAs old new place said → TextSays SaysAs contents.files place (Ok said)
+      → WasParsed device SaysAs old new place said → TextSays SaysAs contents.files place (Ok said)
   text_says SaysAs place said parsed =
       let found = found_in place parsed.0 parsed.1 in
       inr (found.1, subst (λ o. FileSays SaysAs place o (Ok said)) (sym found.0) parsed.2)
 
-  texts_say : (places : List Place) (texts : List (List Statement)) → WereParsed failures may_leave allowed old new places texts → AreTexts contents.files places texts
+  texts_say : (places : List Place) (texts : List (List Statement)) → WereParsed device old new places texts → AreTexts contents.files places texts
   texts_say [] [] parsed = tt
   texts_say [] (text ∷ texts) parsed = absurd parsed
   texts_say (place ∷ places) [] parsed = absurd parsed
@@ -106,7 +106,7 @@ module _ {F : Type 0} (failures : F → ℕ) (may_leave : F → Tearing) (allowe
 
   -- what the scripts were found to declare is what those of the contents declare
   pub scripts_found : {M A Z S T : Type 0} (tables : Tables M A Z S T) (given : List (List ℕ × List ℕ)) (source : Source)
-      → IsDeclared failures may_leave allowed tables given old new source → FolderSays tables contents.files given (Ok source)
+      → IsDeclared device tables given old new source → FolderSays tables contents.files given (Ok source)
   scripts_found tables given source declared = (
     declared.settings,
     (declared.settings, text_says SaysAsSettings settings_place declared.settings declared.settings_parsed, (declared.settings_pass, refl)),
@@ -121,7 +121,7 @@ module _ {F : Type 0} (failures : F → ℕ) (may_leave : F → Tearing) (allowe
 
   module _ (kinds : Kinds) (remembered : Memory) (holds : HoldsTrue kinds sha256 IsText record_place contents remembered) (all : List Bytes)
       (among : Among (flat_map (λ (entry : Path × Entry). contents_of entry.1) remembered) all) where
-    true_record : (path : Path) (last : Option Record) → IsTrue (is_task_path path) → WasAnswered failures may_leave allowed old new path last → IsTrueWithin kinds all last
+    true_record : (path : Path) (last : Option Record) → IsTrue (is_task_path path) → WasAnswered device old new path last → IsTrueWithin kinds all last
     true_record path None named answered run is = none_some is
     true_record path (Some said) named answered run is =
         by (recalled remembered path) refl (holds.records path named)
@@ -142,7 +142,7 @@ module _ {F : Type 0} (failures : F → ℕ) (may_leave : F → Tearing) (allowe
             )
 
     pub true_records : (paths : List Path) (records : List (Option Record)) → AllByRecursion (λ (path : Path). IsTrue (is_task_path path)) paths
-        → AllZip (WasAnswered failures may_leave allowed old new) paths records → AllByRecursion (IsTrueWithin kinds all) records
+        → AllZip (WasAnswered device old new) paths records → AllByRecursion (IsTrueWithin kinds all) records
     true_records [] [] named answered = tt
     true_records [] (last ∷ records) named answered = absurd answered
     true_records (path ∷ paths) [] named answered = tt
@@ -150,35 +150,35 @@ module _ {F : Type 0} (failures : F → ℕ) (may_leave : F → Tearing) (allowe
         (true_record path last named.0 answered.0, true_records paths records named.1 answered.1)
 
 -- a dry run requests no change, task by task
-module _ {F S : Type 0} (failures : F → ℕ) (may_leave : F → Tearing) (allowed : F → Call → F → Type 0) (leaves : Tearing) (Shows : F → Contents → Type 0)
-    (are : AreAnswersOf allowed leaves Shows) (meanings : Meanings S) (rows : Rows S) (options : Options) where
+module _ {F S : Type 0} (device : Device F) (leaves : Tearing) (Shows : F → Contents → Type 0)
+    (are : AreAnswersOf device.allowed leaves Shows) (meanings : Meanings S) (rows : Rows S) (options : Options) where
   dry_unchanged : (rest : List Planned) (records : List (Option Record)) (since old new : F) (contents : Contents)
-      → ExecutionsRequest failures may_leave allowed meanings rows options rest records (dry_reports rest) since old new → Shows new contents → Shows old contents
+      → ExecutionsRequest device meanings rows options rest records (dry_reports rest) since old new → Shows new contents → Shows old contents
   dry_unchanged [] [] since old new contents requests shows = subst (λ (f : F). Shows f contents) requests shows
   dry_unchanged [] (last ∷ records) since old new contents requests shows = absurd requests
   dry_unchanged (planned ∷ rest) [] since old new contents requests shows = absurd requests
   dry_unchanged (planned ∷ rest) (last ∷ records) since old new contents requests shows =
-      back_unchanged failures may_leave allowed leaves Shows are old requests.0 contents requests.1 (dry_unchanged rest records since requests.0 new contents requests.2 shows)
+      back_unchanged device leaves Shows are old requests.0 contents requests.1 (dry_unchanged rest records since requests.0 new contents requests.2 shows)
 
 -- ---- A build in which no task failed
 
-module _ {F M N Z S A : Type 0} (failures : F → ℕ) (may_leave : F → Tearing) (allowed : F → Call → F → Type 0) (tables : Tables M N Z S A)
-    (step : (leaves : Tearing) (Shows : F → Contents → Type 0) → AreAnswersOf allowed leaves Shows
+module _ {F M N Z S A : Type 0} (device : Device F) (tables : Tables M N Z S A)
+    (step : (leaves : Tearing) (Shows : F → Contents → Type 0) → AreAnswersOf device.allowed leaves Shows
     → (kinds : Kinds) → Agrees tables.shapes tables.kinds kinds → (options : Options) (plan : Plan)
-    → Steps failures may_leave allowed Shows tables.shapes tables.kinds kinds options plan) where
-  module _ (log : F → List Call) (keeps : LogsCalls allowed log) (kinds : Kinds) (agrees : Agrees tables.shapes tables.kinds kinds)
-      (invocation : Invocation) (report : Report) (old new : F) (start end : Contents) (begins : log old ≡ []) (answers : AnswersSoundly (may_leave old) start (log new) end)
-      (builds : BuildsDeclared failures may_leave allowed tables invocation report old new) (none_failed : has_failure report ≡ false)
+    → Steps device Shows tables.shapes tables.kinds kinds options plan) where
+  module _ (log : F → List Call) (keeps : LogsCalls device.allowed log) (kinds : Kinds) (agrees : Agrees tables.shapes tables.kinds kinds)
+      (invocation : Invocation) (report : Report) (old new : F) (start end : Contents) (begins : log old ≡ []) (answers : AnswersSoundly (device.may_leave old) start (log new) end)
+      (builds : BuildsDeclared device tables invocation report old new) (none_failed : has_failure report ≡ false)
       (all : List Bytes) (separate : AreCollisionFree sha256 all) (start_among : Among (contents_outside start) all) (end_among : Among (contents_outside end) all)
-      (trusted : Shown allowed log keeps (may_leave old) start builds.plan.begun start → invocation.options.dry_run ≡ false → AllByRecursion (IsTrueWithin kinds all) builds.plan.records) where
+      (trusted : Shown device.allowed log keeps (device.may_leave old) start builds.plan.begun start → invocation.options.dry_run ≡ false → AllByRecursion (IsTrueWithin kinds all) builds.plan.records) where
     abbrev Shows : F → Contents → Type 0
-    Shows = Shown allowed log keeps (may_leave old) start
+    Shows = Shown device.allowed log keeps (device.may_leave old) start
 
-    are : AreAnswersOf allowed (may_leave old) Shows
-    are = kept_answers allowed log keeps (may_leave old) start
+    are : AreAnswersOf device.allowed (device.may_leave old) Shows
+    are = kept_answers device.allowed log keeps (device.may_leave old) start
 
-    unchanged : (first last : F) (contents : Contents) → Requests failures may_leave allowed no_change first last → Shows last contents → Shows first contents
-    unchanged = back_unchanged failures may_leave allowed (may_leave old) Shows are
+    unchanged : (first last : F) (contents : Contents) → Requests device no_change first last → Shows last contents → Shows first contents
+    unchanged = back_unchanged device (device.may_leave old) Shows are
 
     abbrev registry : Registry
     registry = registry_said tables builds.source
@@ -193,7 +193,7 @@ module _ {F M N Z S A : Type 0} (failures : F → ℕ) (may_leave : F → Tearin
     shows_start : (contents : Contents) → Shows builds.plan.begun contents → contents ≡ start
     shows_start contents shows =
         let first = unchanged old builds.begun contents builds.first (unchanged builds.begun builds.plan.begun contents builds.plan.first shows) in
-        let none : AnswersSoundly (may_leave old) start [] contents = subst (λ (calls : List Call). AnswersSoundly (may_leave old) start calls contents) begins first in
+        let none : AnswersSoundly (device.may_leave old) start [] contents = subst (λ (calls : List Call). AnswersSoundly (device.may_leave old) start calls contents) begins first in
         none.1
 
     -- ---- What the folder showed when the scripts were read
@@ -201,11 +201,11 @@ module _ {F M N Z S A : Type 0} (failures : F → ℕ) (may_leave : F → Tearin
     shows_begun : Shows builds.plan.begun start → Shows builds.begun start
     shows_begun shows = unchanged builds.begun builds.plan.begun start builds.plan.first shows
 
-    has_plan : Shows builds.plan.begun start → HasPlan (setting_of tables kinds (may_leave old)) (outside start) invocation plan
+    has_plan : Shows builds.plan.begun start → HasPlan (setting_of tables kinds (device.may_leave old)) (outside start) invocation plan
     has_plan shows = record {
       registry = registry;
       scripts = registered tables start invocation.properties invocation.properties refl builds.source
-          (scripts_found failures may_leave allowed (may_leave old) Shows are old builds.begun start (shows_begun shows) tables invocation.properties builds.source builds.declared);
+          (scripts_found device (device.may_leave old) Shows are old builds.begun start (shows_begun shows) tables invocation.properties builds.source builds.declared);
       request = request;
       asked = builds.by.asked;
       planned = builds.by.planned;
@@ -216,14 +216,14 @@ module _ {F M N Z S A : Type 0} (failures : F → ℕ) (may_leave : F → Tearin
     module _ (dry : IsTrue invocation.options.dry_run) (reports : report.tasks ≡ dry_reports plan) where
       dry_shows : Shows builds.plan.begun end
       dry_shows =
-          dry_unchanged failures may_leave allowed (may_leave old) Shows are tables.shapes tables.kinds invocation.options plan builds.plan.records builds.plan.begun builds.plan.begun new end
-          (subst (λ (r : List TaskReport). ExecutionsRequest failures may_leave allowed tables.shapes tables.kinds invocation.options plan builds.plan.records r builds.plan.begun builds.plan.begun new) reports builds.plan.executions)
+          dry_unchanged device (device.may_leave old) Shows are tables.shapes tables.kinds invocation.options plan builds.plan.records builds.plan.begun builds.plan.begun new end
+          (subst (λ (r : List TaskReport). ExecutionsRequest device tables.shapes tables.kinds invocation.options plan builds.plan.records r builds.plan.begun builds.plan.begun new) reports builds.plan.executions)
           answers
 
       same : end ≡ start
       same = shows_start end dry_shows
 
-      dry_from_scratch : IsFromScratch (setting_of tables kinds (may_leave old)) start invocation report end
+      dry_from_scratch : IsFromScratch (setting_of tables kinds (device.may_leave old)) start invocation report end
       dry_from_scratch = record {
         plan = plan;
         planned = has_plan (subst (λ (c : Contents). Shows builds.plan.begun c) same dry_shows);
@@ -240,9 +240,9 @@ module _ {F M N Z S A : Type 0} (failures : F → ℕ) (may_leave : F → Tearin
       well = outlines_started invocation.options request plan builds.by.planned.schedule [] plan [] report.tasks refl refl builds.by.planned.all_ready none_failed outlines
 
       chained : (before : Contents) × Shows builds.plan.begun before × AllWentWell kinds plan builds.plan.records before end
-      chained = chain failures may_leave allowed Shows tables.shapes tables.kinds kinds invocation.options plan
-          (step (may_leave old) Shows are kinds agrees invocation.options plan)
-          [] plan builds.plan.records report.tasks builds.plan.begun builds.plan.begun new end (each_may failures may_leave allowed tables invocation report old new builds) outlines well builds.plan.executions answers
+      chained = chain device Shows tables.shapes tables.kinds kinds invocation.options plan
+          (step (device.may_leave old) Shows are kinds agrees invocation.options plan)
+          [] plan builds.plan.records report.tasks builds.plan.begun builds.plan.begun new end (each_may device tables invocation report old new builds) outlines well builds.plan.executions answers
 
       began : chained.0 ≡ start
       began = shows_start chained.0 chained.1
@@ -254,28 +254,28 @@ module _ {F M N Z S A : Type 0} (failures : F → ℕ) (may_leave : F → Tearin
       done = all_done kinds all separate plan builds.plan.records start end builds.by.planned.sound.outputs_separate (trusted wet_shows wet) start_among end_among
           (subst (λ (c : Contents). AllWentWell kinds plan builds.plan.records c end) began chained.2)
 
-      wet_from_scratch : IsFromScratch (setting_of tables kinds (may_leave old)) start invocation report end
+      wet_from_scratch : IsFromScratch (setting_of tables kinds (device.may_leave old)) start invocation report end
       wet_from_scratch = record {
         plan = plan;
         planned = has_plan wet_shows;
         started = λ _. each_started report.tasks well;
-        files = done_from_scratch kinds invocation.options request plan (world_of start) (world_of end) builds.by.planned (shaped failures may_leave allowed tables invocation report old new builds)
-            (folder_where (λ place. not (is_own place)) start.files (start_sound (may_leave old) (log new) start end answers).folder) tt wet done;
+        files = done_from_scratch kinds invocation.options request plan (world_of start) (world_of end) builds.by.planned (shaped device tables invocation report old new builds)
+            (folder_where (λ place. not (is_own place)) start.files (start_sound (device.may_leave old) (log new) start end answers).folder) tt wet done;
       }
 
-    pub from_scratch_left : IsFromScratch (setting_of tables kinds (may_leave old)) start invocation report end
+    pub from_scratch_left : IsFromScratch (setting_of tables kinds (device.may_leave old)) start invocation report end
     from_scratch_left = elim builds.by.outlines [
       | inl dry ↦ dry_from_scratch dry.0 dry.1
       | inr run ↦ wet_from_scratch run.0 run.1
     ]
 
-  pub built : AnsweredSuccessIsFromScratch failures may_leave allowed tables
+  pub built : AnsweredSuccessIsFromScratch device tables
   built log keeps kinds agrees invocation report old new start end remembered begins is builds none_failed =
       from_scratch_left log keeps kinds agrees invocation report old new start end begins is.answers builds none_failed (flat_map (λ (entry : Path × Entry). contents_of entry.1) remembered ++ contents_outside start ++ contents_outside end) is.separate
       (λ c h. in_left c (flat_map (λ (entry : Path × Entry). contents_of entry.1) remembered ++ contents_outside start) (contents_outside end) (in_right c (flat_map (λ (entry : Path × Entry). contents_of entry.1) remembered) (contents_outside start) h))
       (λ c h. in_right c (flat_map (λ (entry : Path × Entry). contents_of entry.1) remembered ++ contents_outside start) (contents_outside end) h)
       (λ shows wet.
-      true_records failures may_leave allowed (may_leave old) (Shown allowed log keeps (may_leave old) start) (kept_answers allowed log keeps (may_leave old) start)
+      true_records device (device.may_leave old) (Shown device.allowed log keeps (device.may_leave old) start) (kept_answers device.allowed log keeps (device.may_leave old) start)
       builds.begun builds.plan.begun start shows kinds remembered is.holds (flat_map (λ (entry : Path × Entry). contents_of entry.1) remembered ++ contents_outside start ++ contents_outside end)
       (λ c h. in_left c (flat_map (λ (entry : Path × Entry). contents_of entry.1) remembered ++ contents_outside start) (contents_outside end) (in_left c (flat_map (λ (entry : Path × Entry). contents_of entry.1) remembered) (contents_outside start) h))
-      (order builds.by.plan) builds.plan.records (each_named failures may_leave allowed tables invocation report old new builds) (builds.plan.answered wet))
+      (order builds.by.plan) builds.plan.records (each_named device tables invocation report old new builds) (builds.plan.answered wet))

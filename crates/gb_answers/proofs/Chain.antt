@@ -4,8 +4,7 @@ use Rattle.std.specs.List.{list_all, AllByRecursion}
 use Rattle.std.proofs.Common.{refl, sym, ap, subst, ◌∙◌, inl, inr}
 use Rattle.gb_action.specs.Meanings.{Meanings}
 use Rattle.gb_exec.specs.Asking.{ExecutionsRequest}
-use Rattle.gb_folder.specs.Calls.{Call}
-use Rattle.gb_folder.specs.Files.{Bytes, Contents, Files, Place, Tearing, files_where, is_empty, is_own}
+use Rattle.gb_folder.specs.Files.{Bytes, Contents, Files, Place, files_where, is_empty, is_own}
 use Rattle.gb_history.specs.Record.{Record}
 use Rattle.gb_meaning.specs.Headline.{contents_outside}
 use Rattle.gb_meaning.specs.Kinds.{Kinds}
@@ -31,16 +30,17 @@ use Rattle.gb_task.specs.Buildable.{IsBuildable}
 use Rattle.gb_task.specs.ByOutcome.{ExecutionRequests, since_after}
 use Rattle.sha2.specs.Sha256.{sha256}
 use Rattle.gb_answers.proofs.Going.{AllWentWell, IsOfTrue, WentWell, world_of}
+use Rattle.gb_folder.specs.Calls.{Device}
 
 -- what one execution that went well gives: contents before it under which it went well
-abbrev pub Steps : {F S : Type 0} → (F → ℕ) → (F → Tearing) → (F → Call → F → Type 0) → (F → Contents → Type 0)
+abbrev pub Steps : {F S : Type 0} → Device F → (F → Contents → Type 0)
     → Meanings S → Rows S → Kinds → Options → Plan → Type 0
-Steps {F = F} failures may_leave allowed Shows meanings rows kinds options plan =
+Steps {F = F} device Shows meanings rows kinds options plan =
     (moment : Moment) (task : Task) (last : Option Record) (outcome : Outcome) (lines : List (List ℕ)) (since old new : F) (after : Contents)
     → IsBuildable meanings rows task → IsShaped task → some_overlap (output_places task) ≡ false
     → AnswersAlone options plan moment task task.runs (is_empty task.actions) outcome
     → is_failed outcome ≡ false → is_started outcome ≡ true
-    → ExecutionRequests failures may_leave allowed meanings rows options task last outcome lines since old new
+    → ExecutionRequests device meanings rows options task last outcome lines since old new
     → Shows new after
     → (before : Contents) × Shows old before × WentWell kinds task last before after
 
@@ -49,12 +49,12 @@ abbrev pub MayStep : {S : Type 0} → Meanings S → Rows S → Planned → Type
 MayStep meanings rows planned =
     IsBuildable meanings rows planned.task × IsShaped planned.task × (some_overlap (output_places planned.task) ≡ false)
 
-module _ {F S : Type 0} (failures : F → ℕ) (may_leave : F → Tearing) (allowed : F → Call → F → Type 0) (Shows : F → Contents → Type 0)
+module _ {F S : Type 0} (device : Device F) (Shows : F → Contents → Type 0)
     (meanings : Meanings S) (rows : Rows S) (kinds : Kinds) (options : Options) (plan : Plan)
-    (step : Steps failures may_leave allowed Shows meanings rows kinds options plan) where
+    (step : Steps device Shows meanings rows kinds options plan) where
   pub chain : (done : List (Path × Outcome)) (rest : List Planned) (records : List (Option Record)) (reports : List TaskReport) (since old new : F) (after : Contents)
       → AllByRecursion (MayStep meanings rows) rest → AreOutlines options plan done rest reports → list_all ended_well reports ≡ true
-      → ExecutionsRequest failures may_leave allowed meanings rows options rest records reports since old new → Shows new after
+      → ExecutionsRequest device meanings rows options rest records reports since old new → Shows new after
       → (before : Contents) × Shows old before × AllWentWell kinds rest records before after
   chain done [] [] [] since old new after each outlines well requests shows = (after, subst (λ (f : F). Shows f after) requests shows, refl)
   chain done [] [] (report ∷ reports) since old new after each outlines well requests shows = absurd requests

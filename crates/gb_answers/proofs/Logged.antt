@@ -1,22 +1,20 @@
 -- A build over a folder that has kept no call before.
-use Rattle.std.specs.Prelude.{ℕ, ◌≡◌, List, [], Result, Ok, Err, IfOk}
+use Rattle.std.specs.Prelude.{◌≡◌, List, [], Result, Ok, Err, IfOk}
 use Rattle.gb_answers.specs.Scratch.{AnsweredSuccessIsFromScratch, LeavesFromScratch}
 use Rattle.gb_build.specs.InvocationAsked.{InvocationRequests}
-use Rattle.gb_folder.specs.Calls.{Call}
-use Rattle.gb_folder.specs.Files.{Tearing}
+use Rattle.gb_folder.specs.Calls.{Call, Device}
 use Rattle.gb_logged.specs.Logged.{LogsCalls}
 use Rattle.gb_meaning.specs.declared.events.Invocation.{Invocation}
 use Rattle.gb_registry.specs.Tables.{Tables}
 use Rattle.gb_report.specs.declared.fault.Fault.{Fault}
 use Rattle.gb_report.specs.declared.report.Report.{Report}
 
-pub leaves_from_scratch : {F M N Z S A : Type 0} (failures : F → ℕ) (may_leave : F → Tearing)
-    (allowed : F → Call → F → Type 0) (tables : Tables M N Z S A) (log : F → List Call)
-    → LogsCalls allowed log → AnsweredSuccessIsFromScratch failures may_leave allowed tables
+pub leaves_from_scratch : {F M N Z S A : Type 0} (device : Device F) (tables : Tables M N Z S A) (log : F → List Call)
+    → LogsCalls device.allowed log → AnsweredSuccessIsFromScratch device tables
     → (invocation : Invocation) (answer : Result Report Fault) (old new : F) → log old ≡ []
-    → InvocationRequests failures may_leave allowed tables invocation answer old new
-    → IfOk answer (λ report. LeavesFromScratch tables (may_leave old) invocation report (log new))
-leaves_from_scratch failures may_leave allowed tables log keeps law invocation (Ok report) old new begins requests =
+    → InvocationRequests device tables invocation answer old new
+    → IfOk answer (λ report. LeavesFromScratch tables (device.may_leave old) invocation report (log new))
+leaves_from_scratch device tables log keeps law invocation (Ok report) old new begins requests =
     λ kinds agrees start end remembered is none_failed.
     law log keeps kinds agrees invocation report old new start end remembered begins is requests none_failed
-leaves_from_scratch failures may_leave allowed tables log keeps law invocation (Err fault) old new begins requests = tt
+leaves_from_scratch device tables log keeps law invocation (Err fault) old new begins requests = tt

@@ -7,8 +7,7 @@ use Rattle.gb_build.specs.Scripts.{script_places}
 use Rattle.gb_build.specs.Texts.{FileSays}
 use Rattle.gb_core.proofs.Parts.{parts_make}
 use Rattle.gb_core.specs.Path.{is_project_path, is_task_path}
-use Rattle.gb_folder.specs.Calls.{Call}
-use Rattle.gb_folder.specs.Files.{Bytes, Place, Tearing}
+use Rattle.gb_folder.specs.Files.{Bytes, Place}
 use Rattle.gb_plan.proofs.Tests.{each_all, each_of_all, left_of, or_right}
 use Rattle.gb_registry.proofs.Fine.{is_fine, projects_fine}
 use Rattle.gb_registry.specs.Projects.{Path, folder_text, project_paths, projects_of, root_path}
@@ -20,6 +19,7 @@ use Rattle.gb_script.specs.Fits.{IsScript, IsStatement}
 use Rattle.gb_script.specs.Script.{Says}
 use Rattle.gb_script.specs.declared.script.Statement.{Statement}
 use Rattle.gb_script.specs.declared.script.Statement.TheVariants as statements
+use Rattle.gb_folder.specs.Calls.{Device}
 
 -- each is the path of a task
 abbrev pub AreTaskPaths : List Path → Type 0
@@ -72,8 +72,8 @@ file_well : (place : Place) (found : Option Bytes) (text : List Statement) → F
 file_well place None text says = let none : text ≡ [] = ap text_of says in subst IsScript (sym none) tt
 file_well place (Some bytes) text says = says.is
 
-module _ {F : Type 0} (failures : F → ℕ) (may_leave : F → Tearing) (allowed : F → Call → F → Type 0) (old begun : F) where
-  texts_well : (places : List Place) (texts : List (List Statement)) → WereParsed failures may_leave allowed old begun places texts → AllByRecursion IsScript texts
+module _ {F : Type 0} (device : Device F) (old begun : F) where
+  texts_well : (places : List Place) (texts : List (List Statement)) → WereParsed device old begun places texts → AllByRecursion IsScript texts
   texts_well [] [] parsed = tt
   texts_well [] (text ∷ texts) parsed = absurd parsed
   texts_well (place ∷ places) [] parsed = absurd parsed
@@ -81,7 +81,7 @@ module _ {F : Type 0} (failures : F → ℕ) (may_leave : F → Tearing) (allowe
 
   -- each path that is registered is that of a task
   pub named : {M A Z S T : Type 0} (tables : Tables M A Z S T) (given : List (List ℕ × List ℕ)) (source : Source)
-      → IsDeclared failures may_leave allowed tables given old begun source → AreTaskPaths (paths_of source.said)
+      → IsDeclared device tables given old begun source → AreTaskPaths (paths_of source.said)
   named tables given source declared =
       subst (λ (s : Source). AreTaskPaths (paths_of s.said)) (sym declared.declares)
       (paths_well (all_said (project_paths declared.settings) declared.texts)

@@ -1,5 +1,5 @@
 -- The tasks of the plan of a build, by the scripts that its calls returned.
-use Rattle.std.specs.Prelude.{ℕ, ◌≡◌, ◌++◌, false, List, [], ◌∷◌, map, Some, Result, Ok, Err, IsTrue, IfOk}
+use Rattle.std.specs.Prelude.{◌≡◌, ◌++◌, false, List, [], ◌∷◌, map, Some, Result, Ok, Err, IsTrue, IfOk}
 use Rattle.std.specs.List.{AllByRecursion, list_any}
 use Rattle.std.proofs.Common.{refl, sym, subst, ◌∙◌}
 use Rattle.gb_action.specs.Meanings.{Meanings}
@@ -9,8 +9,7 @@ use Rattle.gb_build.specs.InvocationAsked.{BuildsDeclared}
 use Rattle.gb_core.specs.Path.{is_task_path}
 use Rattle.gb_core.specs.Place.{overlaps}
 use Rattle.gb_declare.specs.Registered.{declaration_of, registry_said}
-use Rattle.gb_folder.specs.Calls.{Call}
-use Rattle.gb_folder.specs.Files.{Place, Tearing}
+use Rattle.gb_folder.specs.Files.{Place}
 use Rattle.gb_meaning.specs.declared.events.Invocation.{Invocation}
 use Rattle.gb_meaning.proofs.Lemmas.Clear.{places_of}
 use Rattle.gb_plan.specs.Graph.{IsRegistry, Plan, Registry, Request, declaration_at, order, some_overlap}
@@ -28,6 +27,7 @@ use Rattle.gb_report.specs.declared.report.Report.{Report}
 use Rattle.gb_task.specs.Buildable.{IsBuildable}
 use Rattle.gb_answers.proofs.Chain.{MayStep}
 use Rattle.gb_answers.proofs.Named.{named}
+use Rattle.gb_folder.specs.Calls.{Device}
 
 -- ---- Plans
 
@@ -44,8 +44,8 @@ may_step meanings rows [] buildable shaped apart = tt
 may_step meanings rows (planned ∷ rest) buildable shaped apart =
     ((buildable.0, shaped.0, overlap_head (output_places planned.task) (places_of rest) apart), may_step meanings rows rest buildable.1 shaped.1 (overlap_tail (output_places planned.task) (places_of rest) apart))
 
-module _ {F M N Z S A : Type 0} (failures : F → ℕ) (may_leave : F → Tearing) (allowed : F → Call → F → Type 0) (tables : Tables M N Z S A)
-    (invocation : Invocation) (report : Report) (old new : F) (builds : BuildsDeclared failures may_leave allowed tables invocation report old new) where
+module _ {F M N Z S A : Type 0} (device : Device F) (tables : Tables M N Z S A)
+    (invocation : Invocation) (report : Report) (old new : F) (builds : BuildsDeclared device tables invocation report old new) where
   abbrev pub registry : Registry
   registry = registry_said tables builds.source
 
@@ -85,7 +85,7 @@ module _ {F M N Z S A : Type 0} (failures : F → ℕ) (may_leave : F → Tearin
 
       at_path : (path : Path) (task : Task) → declaration_at request.registry path ≡ Some (Ok task) → IsTrue (is_task_path path)
       at_path path task declared =
-          at_declared (λ (p : Path) (t : Task). IsTrue (is_task_path p)) registry.tasks (entries (paths_of builds.source.said) (named failures may_leave allowed old builds.begun tables invocation.properties builds.source builds.declared))
+          at_declared (λ (p : Path) (t : Task). IsTrue (is_task_path p)) registry.tasks (entries (paths_of builds.source.said) (named device old builds.begun tables invocation.properties builds.source builds.declared))
           path task (subst (λ (r : Registry). declaration_at r path ≡ Some (Ok task)) of_registry declared)
 
       ordered : (rest : List Planned) → AllByRecursion (λ (planned : Planned). declaration_at request.registry planned.task.path ≡ Some (Ok planned.task)) rest

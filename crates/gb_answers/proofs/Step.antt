@@ -11,7 +11,7 @@ use Rattle.gb_action.specs.Changes.{Changes}
 use Rattle.gb_action.specs.Files.{Trees}
 use Rattle.gb_action.specs.Meanings.{Meanings, WritesItsOutput}
 use Rattle.gb_action.specs.declared.output.OutputFiles.{OutputFiles}
-use Rattle.gb_folder.specs.Calls.{Call, Requests, no_change}
+use Rattle.gb_folder.specs.Calls.{Call, Requests, no_change, Device}
 use Rattle.gb_folder.specs.Each.{OrStops}
 use Rattle.gb_folder.specs.Files.{Bytes, Contents, DiffersOnlyAt, Files, IsFolder, Place, Tearing, are_placed, file_at, files_where, is_empty}
 use Rattle.gb_folder.specs.Semantics.{AnswersAll}
@@ -236,8 +236,8 @@ never_idle outcome false not_so e = not_false (sym (ap (λ (o : Outcome). is_exe
 
 -- ---- executions
 
-module _ {F S : Type 0} (failures : F → ℕ) (may_leave : F → Tearing) (allowed : F → Call → F → Type 0) (leaves : Tearing) (Shows : F → Contents → Type 0)
-    (are : AreAnswersOf allowed leaves Shows) (meanings : Meanings S) (rows : Rows S) (kinds : Kinds) (agrees : Agrees meanings rows kinds)
+module _ {F S : Type 0} (device : Device F) (leaves : Tearing) (Shows : F → Contents → Type 0)
+    (are : AreAnswersOf device.allowed leaves Shows) (meanings : Meanings S) (rows : Rows S) (kinds : Kinds) (agrees : Agrees meanings rows kinds)
     (own_output : (kind : ℕ) → WritesItsOutput meanings kind) (options : Options) where
   module _ (task : Task) (last : Option Record) (buildable : IsBuildable meanings rows task) (apart : some_overlap (output_places task) ≡ false) where
     lie : AreSeparate task
@@ -247,18 +247,18 @@ module _ {F S : Type 0} (failures : F → ℕ) (may_leave : F → Tearing) (allo
     Went old after = (before : Contents) × Shows old before × WentWell kinds task last before after
 
     -- nothing changed
-    still : (old new : F) (after : Contents) → Requests failures may_leave allowed no_change old new → Shows new after
+    still : (old new : F) (after : Contents) → Requests device no_change old new → Shows new after
         → (GoesByTrue kinds last (contents_outside after) → Did kinds task (world_of after) (world_of after)) → Went old after
     still old new after requests shows did = (
       after,
-      back_unchanged failures may_leave allowed leaves Shows are old new after requests shows,
+      back_unchanged device leaves Shows are old new after requests shows,
       record { sound = are.sound new after shows; files = refl; special = refl; done = did },
     )
 
     -- the trees and the outputs that were read are those outside of the tool's own folder
-    trees_here : (old new : F) (contents : Contents) (trees : Trees) → Shows new contents → HaveRead failures may_leave allowed task trees old new → trees ≡ trees_of task (outside contents).files
+    trees_here : (old new : F) (contents : Contents) (trees : Trees) → Shows new contents → HaveRead device task trees old new → trees ≡ trees_of task (outside contents).files
     trees_here old new contents trees shows have =
-        trees_are failures may_leave allowed leaves Shows are old new contents shows task trees have.inputs have.named ∙ sym (trees_outside task contents.files)
+        trees_are device leaves Shows are old new contents shows task trees have.inputs have.named ∙ sym (trees_outside task contents.files)
 
     observed_outside : (new : F) (contents : Contents) (observed : List OutputFiles) → Shows new contents → observed ≡ map (observed_of contents.files) task.outputs → observed ≡ map (observed_of (outside contents).files) task.outputs
     observed_outside new contents observed shows is =
@@ -266,16 +266,16 @@ module _ {F S : Type 0} (failures : F → ℕ) (may_leave : F → Tearing) (allo
 
     -- a run without actions, and so without outputs, leaves what is outside of the tool's own folder
     idle_full : (lines : List Text) (old new : F) (after : Contents) → task.runs ≡ true → is_empty task.actions ≡ true → is_empty task.outputs ≡ true → Shows new after
-        → RanInFull failures may_leave allowed meanings rows task (is_some last) lines (Ok tt) old new → Went old after
+        → RanInFull device meanings rows task (is_some last) lines (Ok tt) old new → Went old after
     idle_full lines old new after runs acts outs shows was =
-        let back = back_calls failures may_leave allowed leaves Shows are was.1 new was.3.0 after was.3.1 shows in
+        let back = back_calls device leaves Shows are was.1 new was.3.0 after was.3.1 shows in
         let ran = ran_in_full leaves kinds meanings rows agrees task was.0 (is_some last) was.3.0 lines back.0 after (are.sound was.1 back.0 back.1).folder lie
         (trees_here old was.1 back.0 was.0 back.1 was.2) was.3.2 back.2 in
         let files : (outside after).files ≡ (outside back.0).files =
         ran.2 ∙ ap (with_outputs task (outside back.0).files) (nothing_made kinds task task.actions (trees_of task (outside back.0).files) ran.0 acts ran.1)
         ∙ none_out task.outputs (outside back.0).files outs in (
           back.0,
-          back_unchanged failures may_leave allowed leaves Shows are old was.1 back.0 was.2.requests back.1,
+          back_unchanged device leaves Shows are old was.1 back.0 was.2.requests back.1,
           record {
             sound = are.sound new after shows;
             files = ap (rest_of task) files;
@@ -288,14 +288,14 @@ module _ {F S : Type 0} (failures : F → ℕ) (may_leave : F → Tearing) (allo
     module _ (runs : task.runs ≡ true) (acts : is_empty task.actions ≡ false) where
       -- ---- up to date
 
-      current : (since new : F) (after : Contents) → Shows new after → IsCurrentOn failures may_leave allowed options task last since new
+      current : (since new : F) (after : Contents) → Shows new after → IsCurrentOn device options task last since new
           → GoesByTrue kinds last (contents_outside after) → Did kinds task (world_of after) (world_of after)
       current since new after shows on goes = worked (record {
         runs = runs;
         has_actions = acts;
-        readable = readable_outside task after acts (inputs_readable failures may_leave allowed leaves Shows are since new after shows task on.trees on.inputs_read);
+        readable = readable_outside task after acts (inputs_readable device leaves Shows are since new after shows task on.trees on.inputs_read);
         made_files = shown.made_files;
-        makes = made_sourced kinds task files shown.made_files (source_outside task after.files ∙ sourced failures may_leave allowed leaves Shows are since new after shows task on.sourced) shown.makes;
+        makes = made_sourced kinds task files shown.made_files (source_outside task after.files ∙ sourced device leaves Shows are since new after shows task on.sourced) shown.makes;
         room = shown.room;
         files = shown.same;
         special = refl;
@@ -312,26 +312,26 @@ module _ {F S : Type 0} (failures : F → ℕ) (may_leave : F → Tearing) (allo
           placed = placed_where is_kept after.files (are.sound new after shows).placed
 
           trees : on.trees ≡ trees_of task (outside after).files
-          trees = trees_are failures may_leave allowed leaves Shows are since new after shows task on.trees on.inputs_read on.named ∙ sym (trees_outside task after.files)
+          trees = trees_are device leaves Shows are since new after shows task on.trees on.inputs_read on.named ∙ sym (trees_outside task after.files)
 
           observed : on.observed ≡ map (observed_of (outside after).files) task.outputs
           observed = observed_outside new after on.observed shows
-              (outputs_are_once failures may_leave allowed leaves Shows are since new after shows task on.observed on.outputs_read on.formed buildable.not_own)
+              (outputs_are_once device leaves Shows are since new after shows task on.observed on.outputs_read on.formed buildable.not_own)
 
           shown : MadeShows kinds task (outside after).files
           shown = shows_made kinds task (outside after).files folder
               (made_at kinds task on.trees on.observed (outside after).files folder placed trees observed lie
-              (up_to_date_is_made failures may_leave allowed kinds options task last since new lie on
+              (up_to_date_is_made device kinds options task last since new lie on
               (true_beside kinds task last on.run (outside after).files on.trees on.observed on.remembered trees observed goes)))
 
       -- ---- without source
 
-      cleared_well : (lines : List Text) (old new : F) (after : Contents) → Shows new after → WasCleared failures may_leave allowed task (is_some last) lines (Ok tt) old new → Went old after
+      cleared_well : (lines : List Text) (old new : F) (after : Contents) → Shows new after → WasCleared device task (is_some last) lines (Ok tt) old new → Went old after
       cleared_well lines old new after shows was =
-          let back = back_calls failures may_leave allowed leaves Shows are was.0 new was.3.0 after was.3.1 shows in
+          let back = back_calls device leaves Shows are was.0 new was.3.0 after was.3.1 shows in
           let left = cleared leaves task (is_some last) was.3.0 lines back.0 after (are.sound was.0 back.0 back.1).folder lie was.3.2 back.2 in (
             back.0,
-            back_unchanged failures may_leave allowed leaves Shows are old was.0 back.0 was.1 back.1,
+            back_unchanged device leaves Shows are old was.0 back.0 was.1 back.1,
             record {
               sound = are.sound new after shows;
               files = ap (rest_of task) left.0 ∙ narrowed (λ q. not (is_output_of task q)) (λ q. not (is_output_of task q)) (λ q is. is) (outside back.0).files;
@@ -339,9 +339,9 @@ module _ {F S : Type 0} (failures : F → ℕ) (may_leave : F → Tearing) (allo
               done = λ goes. worked (record {
                 runs = runs;
                 has_actions = acts;
-                readable = readable_outside task back.0 acts (answered_readable failures may_leave allowed leaves Shows are old was.0 back.0 back.1 task was.2.0 was.2.1);
+                readable = readable_outside task back.0 acts (answered_readable device leaves Shows are old was.0 back.0 back.1 task was.2.0 was.2.1);
                 made_files = [];
-                makes = made_sourceless kinds task (outside back.0).files (source_outside task back.0.files ∙ sourceless failures may_leave allowed leaves Shows are old was.0 back.0 back.1 task was.2);
+                makes = made_sourceless kinds task (outside back.0).files (source_outside task back.0.files ∙ sourceless device leaves Shows are old was.0 back.0 back.1 task was.2);
                 room = refl;
                 files = left.0;
                 special = left.1;
@@ -359,26 +359,26 @@ module _ {F S : Type 0} (failures : F → ℕ) (may_leave : F → Tearing) (allo
           × ((outside new).files ≡ with_outputs task (outside old).files made) × (is_empty (blocked_in (rest_of task (outside old).files) made) ≡ true)
           × (new.special ≡ old.special)
 
-      ran_did : (old read : F) (before after : Contents) (trees : Trees) → Shows read before → HaveRead failures may_leave allowed task trees old read → Ran before after → Did kinds task (world_of before) (world_of after)
+      ran_did : (old read : F) (before after : Contents) (trees : Trees) → Shows read before → HaveRead device task trees old read → Ran before after → Did kinds task (world_of before) (world_of after)
       ran_did old read before after trees shows have ran = worked (record {
         runs = runs;
         has_actions = acts;
-        readable = readable_outside task before acts (inputs_readable failures may_leave allowed leaves Shows are old read before shows task trees have.inputs);
+        readable = readable_outside task before acts (inputs_readable device leaves Shows are old read before shows task trees have.inputs);
         made_files = ran.0;
-        makes = made_sourced kinds task (outside before).files ran.0 (source_outside task before.files ∙ sourced failures may_leave allowed leaves Shows are old read before shows task have.sourced) ran.1;
+        makes = made_sourced kinds task (outside before).files ran.0 (source_outside task before.files ∙ sourced device leaves Shows are old read before shows task have.sourced) ran.1;
         room = ran.3;
         files = ran.2;
         special = ran.4;
         memory = inl refl;
       })
 
-      full_well : (lines : List Text) (old new : F) (after : Contents) → Shows new after → RanInFull failures may_leave allowed meanings rows task (is_some last) lines (Ok tt) old new → Went old after
+      full_well : (lines : List Text) (old new : F) (after : Contents) → Shows new after → RanInFull device meanings rows task (is_some last) lines (Ok tt) old new → Went old after
       full_well lines old new after shows was =
-          let back = back_calls failures may_leave allowed leaves Shows are was.1 new was.3.0 after was.3.1 shows in
+          let back = back_calls device leaves Shows are was.1 new was.3.0 after was.3.1 shows in
           let folder = (are.sound was.1 back.0 back.1).folder in
           let ran = ran_in_full leaves kinds meanings rows agrees task was.0 (is_some last) was.3.0 lines back.0 after folder lie (trees_here old was.1 back.0 was.0 back.1 was.2) was.3.2 back.2 in (
             back.0,
-            back_unchanged failures may_leave allowed leaves Shows are old was.1 back.0 was.2.requests back.1,
+            back_unchanged device leaves Shows are old was.1 back.0 was.2.requests back.1,
             record {
               sound = are.sound new after shows;
               files = ap (rest_of task) ran.2
@@ -390,10 +390,10 @@ module _ {F S : Type 0} (failures : F → ℕ) (may_leave : F → Tearing) (allo
           )
 
       changes_well : (run : Record) (lines : List Text) (old new : F) (after : Contents) → Shows new after → last ≡ Some run → IsTrue (has_one_writer kinds task.actions)
-          → RanByChanges failures may_leave allowed meanings rows task options run lines (Ok tt) old new → Went old after
+          → RanByChanges device meanings rows task options run lines (Ok tt) old new → Went old after
       changes_well run lines old new after shows is one was = (
         back.0,
-        back_unchanged failures may_leave allowed leaves Shows are old was.3 back.0 was.4.requests back.1,
+        back_unchanged device leaves Shows are old was.3 back.0 was.4.requests back.1,
         record {
           sound = are.sound new after shows;
           files = stays.0;
@@ -403,7 +403,7 @@ module _ {F S : Type 0} (failures : F → ℕ) (may_leave : F → Tearing) (allo
       )
         where
           back : (before : Contents) × Shows was.3 before × AnswersAll leaves before was.6.0 after
-          back = back_calls failures may_leave allowed leaves Shows are was.3 new was.6.0 after was.6.1 shows
+          back = back_calls device leaves Shows are was.3 new was.6.0 after was.6.1 shows
 
           stays : DiffersOnlyAt (is_output_of task) (outside back.0).files (outside after).files × (after.special ≡ back.0.special)
           stays = changes_kept leaves meanings rows task was.0 was.1 was.2 was.6.0 lines back.0 after was.6.2 back.2
@@ -412,16 +412,16 @@ module _ {F S : Type 0} (failures : F → ℕ) (may_leave : F → Tearing) (allo
           trees = trees_here old was.3 back.0 was.0 back.1 was.4
 
           observed : was.2 ≡ map (observed_of back.0.files) task.outputs
-          observed = outputs_are failures may_leave allowed leaves Shows are old was.3 back.0 back.1 task was.2 was.5.outputs was.5.formed buildable.not_own
+          observed = outputs_are device leaves Shows are old was.3 back.0 back.1 task was.2 was.5.outputs was.5.formed buildable.not_own
 
           ran : GoesByTrue kinds last (contents_outside back.0) → Ran back.0 after
           ran goes =
-              let from = goes_from_true failures may_leave allowed kinds options task run was.0 was.1 was.2 old was.3 lie one (goes run is).0.held was.5
+              let from = goes_from_true device kinds options task run was.0 was.1 was.2 old was.3 lie one (goes run is).0.held was.5
               (true_beside kinds task last run (outside back.0).files was.0 was.2 is trees (observed_outside was.3 back.0 was.2 back.1 observed) goes) in
               ran_by_changes leaves kinds meanings rows agrees task was.0 was.1 was.2 was.6.0 lines back.0 after (are.sound was.3 back.0 back.1).folder (are.sound was.3 back.0 back.1).placed lie trees
               (all_fitting meanings kinds rows task task.actions own_output agrees buildable.ready) from.0 from.1 from.4 observed was.6.2 back.2
 
-      run_well : (lines : List Text) (old new : F) (after : Contents) → Shows new after → WasRun failures may_leave allowed meanings rows task options last lines (Ok tt) old new → Went old after
+      run_well : (lines : List Text) (old new : F) (after : Contents) → Shows new after → WasRun device meanings rows task options last lines (Ok tt) old new → Went old after
       run_well lines old new after shows (inl full) = full_well lines old new after shows full
       run_well lines old new after shows (inr by) = changes_well by.0 lines old new after shows by.1 (by.2 kinds agrees) by.3
 
@@ -429,7 +429,7 @@ module _ {F S : Type 0} (failures : F → ℕ) (may_leave : F → Tearing) (allo
 
     module _ (plan : Plan) (moment : Moment) (lines : List Text) (since old new : F) (after : Contents) (shows : Shows new after) (shaped : IsShaped task) where
       abbrev Requested : Outcome → Type 0
-      Requested outcome = ExecutionRequests failures may_leave allowed meanings rows options task last outcome lines since old new
+      Requested outcome = ExecutionRequests device meanings rows options task last outcome lines since old new
 
       by : (outcome : Outcome) (r a : Bool) → task.runs ≡ r → is_empty task.actions ≡ a → AnswersAlone options plan moment task r a outcome → is_failed outcome ≡ false → is_started outcome ≡ true
           → Requested outcome → Went old after
@@ -460,7 +460,7 @@ module _ {F S : Type 0} (failures : F → ℕ) (may_leave : F → Tearing) (allo
   pub step : (plan : Plan) (moment : Moment) (task : Task) (last : Option Record) (outcome : Outcome) (lines : List Text) (since old new : F) (after : Contents)
       → IsBuildable meanings rows task → IsShaped task → some_overlap (output_places task) ≡ false
       → AnswersAlone options plan moment task task.runs (is_empty task.actions) outcome → is_failed outcome ≡ false → is_started outcome ≡ true
-      → ExecutionRequests failures may_leave allowed meanings rows options task last outcome lines since old new → Shows new after
+      → ExecutionRequests device meanings rows options task last outcome lines since old new → Shows new after
       → (before : Contents) × Shows old before × WentWell kinds task last before after
   step plan moment task last outcome lines since old new after buildable shaped apart answer well started requests shows =
       by task last buildable apart plan moment lines since old new after shows shaped outcome task.runs (is_empty task.actions) refl refl answer well started requests

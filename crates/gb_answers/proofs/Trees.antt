@@ -5,7 +5,6 @@ use Rattle.std.proofs.Common.{refl, sym, ap, ap₂, ◌∙◌}
 use Rattle.std.proofs.lemmas.Bool.{le-ltb}
 use Rattle.gb_action.specs.Files.{Trees}
 use Rattle.gb_folder.specs.Answers.{WereRead}
-use Rattle.gb_folder.specs.Calls.{Call}
 use Rattle.gb_folder.specs.Files.{Bytes, Contents, Files, Place, Tearing, file_at, is_empty, is_special_under, places_under}
 use Rattle.gb_folder.specs.Limits.{max_file, max_files}
 use Rattle.gb_label.specs.Answered.{WasSourced, WasSourceless}
@@ -28,6 +27,7 @@ use Rattle.gb_tree.specs.declared.fault.TreeFault.TheVariants as trees
 use Rattle.gb_tree.specs.declared.kept.ScannedFile.{ScannedFile}
 use Rattle.gb_tree.specs.declared.property.Naming.{Naming}
 use Rattle.gb_answers.proofs.Back.{AreAnswersOf, listed_in, read_in}
+use Rattle.gb_folder.specs.Calls.{Device}
 
 -- ---- What contents have
 
@@ -168,27 +168,27 @@ same_reasons contents (property ∷ properties) (reading ∷ readings) all =
 
 -- ---- What was read on the way to a state
 
-module _ {F : Type 0} (failures : F → ℕ) (may_leave : F → Tearing) (allowed : F → Call → F → Type 0) (leaves : Tearing) (Shows : F → Contents → Type 0)
-    (are : AreAnswersOf allowed leaves Shows) (old new : F) (contents : Contents) (shows : Shows new contents) where
-  file_read : (place : Place) (bytes : Bytes) → WereRead failures may_leave allowed old new place bytes → HasFile contents place bytes
-  file_read place bytes were = read_in failures may_leave allowed leaves Shows are old new contents shows place bytes were
+module _ {F : Type 0} (device : Device F) (leaves : Tearing) (Shows : F → Contents → Type 0)
+    (are : AreAnswersOf device.allowed leaves Shows) (old new : F) (contents : Contents) (shows : Shows new contents) where
+  file_read : (place : Place) (bytes : Bytes) → WereRead device old new place bytes → HasFile contents place bytes
+  file_read place bytes were = read_in device leaves Shows are old new contents shows place bytes were
 
   -- the files of a tree that was read are those of its entries
-  pub has_tree : (entries : Entries) (files : Files) → IsTreeRead failures may_leave allowed old new entries files → AllZip (HasFileOf contents) entries files
+  pub has_tree : (entries : Entries) (files : Files) → IsTreeRead device old new entries files → AllZip (HasFileOf contents) entries files
   has_tree entries files was =
-      all_zip_more (IsFileRead failures may_leave allowed old new) (HasFileOf contents) (λ entry file is. (is.0, file_read entry.1 file.1 is.1)) entries files was
+      all_zip_more (IsFileRead device old new) (HasFileOf contents) (λ entry file is. (is.0, file_read entry.1 file.1 is.1)) entries files was
 
-  observed_small : (observed : List ScannedFile) → WereObserved failures may_leave allowed old new observed → AreSmall contents (entries_observed observed)
+  observed_small : (observed : List ScannedFile) → WereObserved device old new observed → AreSmall contents (entries_observed observed)
   observed_small [] all = tt
   observed_small (file ∷ observed) all = (not_large contents file.place all.0.0 (file_read file.place all.0.0 all.0.1), observed_small observed all.1)
 
   -- the entries of a property that were listed are those of the property
-  pub has_entries : (property : FileProperty) (entries : Entries) → AreEntriesOf failures may_leave allowed old new property entries → HasEntries contents property entries
+  pub has_entries : (property : FileProperty) (entries : Entries) → AreEntriesOf device old new property entries → HasEntries contents property entries
   has_entries property entries were =
       let starts = starts_in property.include (distinct property.roots) in
       let there : AllZip (HasPlaces contents) starts were.listings =
-      all_zip_more (IsStartListed failures may_leave allowed old new) (HasPlaces contents)
-      (λ start places is. listed_in failures may_leave allowed leaves Shows are old new contents shows start.1 places is) starts were.listings were.listed in
+      all_zip_more (IsStartListed device old new) (HasPlaces contents)
+      (λ start places is. listed_in device leaves Shows are old new contents shows start.1 places is) starts were.listings were.listed in
       record {
         are = were.are ∙ ap in_order (found_there property.naming property.include property.exclude contents starts were.listings there)
             ∙ found_in_order property.naming property.roots property.include property.exclude contents.files;
@@ -197,45 +197,45 @@ module _ {F : Type 0} (failures : F → ℕ) (may_leave : F → Tearing) (allowe
         single = were.single;
       }
 
-  tree_is : (property : FileProperty) (tree : List ℕ × Files) → IsInputRead failures may_leave allowed old new property tree → IsTreeOf contents property tree
+  tree_is : (property : FileProperty) (tree : List ℕ × Files) → IsInputRead device old new property tree → IsTreeOf contents property tree
   tree_is property tree was =
       tree_has contents was.0 tree.1 (has_tree was.0 tree.1 was.2) ∙ ap (contents_at contents.files) (has_entries property was.0 was.1).are
 
-  readable : (property : FileProperty) (tree : List ℕ × Files) → IsInputRead failures may_leave allowed old new property tree → tree_faults property contents ≡ []
+  readable : (property : FileProperty) (tree : List ℕ × Files) → IsInputRead device old new property tree → tree_faults property contents ≡ []
   readable property tree was = no_faults contents property was.0 (has_entries property was.0 was.1) (tree_small contents was.0 tree.1 (has_tree was.0 tree.1 was.2))
 
-  answered : (property : FileProperty) (reading : Read) → IsInputAnswered failures may_leave allowed old new property reading → tree_faults property contents ≡ []
+  answered : (property : FileProperty) (reading : Read) → IsInputAnswered device old new property reading → tree_faults property contents ≡ []
   answered property reading was =
       no_faults contents property (entries_observed reading.1) (has_entries property (entries_observed reading.1) was.0) (observed_small reading.1 was.1)
 
-  alike : (property : FileProperty) (reading : Read) → IsInputAnswered failures may_leave allowed old new property reading → IsEmptyAlike contents property reading
+  alike : (property : FileProperty) (reading : Read) → IsInputAnswered device old new property reading → IsEmptyAlike contents property reading
   alike property reading was =
       empty_alike contents.files reading.1
       ∙ ap (λ (entries : Entries). is_empty (contents_at contents.files entries)) (has_entries property (entries_observed reading.1) was.0).are
 
   -- the trees that were read are those of the contents
-  pub trees_are : (task : Task) (trees : Trees) → AreInputsRead failures may_leave allowed old new task trees → map (λ tree. tree.0) trees ≡ given_files task.files
+  pub trees_are : (task : Task) (trees : Trees) → AreInputsRead device old new task trees → map (λ tree. tree.0) trees ≡ given_files task.files
       → trees ≡ trees_of task contents.files
   trees_are task trees were named =
-      trees_named contents task.files trees (all_zip_more (IsInputRead failures may_leave allowed old new) (IsTreeOf contents) tree_is task.files trees were) named
+      trees_named contents task.files trees (all_zip_more (IsInputRead device old new) (IsTreeOf contents) tree_is task.files trees were) named
 
   -- and nothing prevents reading them
-  pub inputs_readable : (task : Task) (trees : Trees) → AreInputsRead failures may_leave allowed old new task trees → input_faults task contents ≡ []
-  inputs_readable task trees were = none_of (IsInputRead failures may_leave allowed old new) contents readable task.files trees were
+  pub inputs_readable : (task : Task) (trees : Trees) → AreInputsRead device old new task trees → input_faults task contents ≡ []
+  inputs_readable task trees were = none_of (IsInputRead device old new) contents readable task.files trees were
 
   -- nor the inputs that were answered
-  pub answered_readable : (task : Task) (inputs : List Read) → AreInputsAnswered failures may_leave allowed old new task inputs → input_faults task contents ≡ []
-  answered_readable task inputs were = none_of (IsInputAnswered failures may_leave allowed old new) contents answered task.files inputs were
+  pub answered_readable : (task : Task) (inputs : List Read) → AreInputsAnswered device old new task inputs → input_faults task contents ≡ []
+  answered_readable task inputs were = none_of (IsInputAnswered device old new) contents answered task.files inputs were
 
   -- they give the task a source if the contents do
-  pub source_alike : (task : Task) (inputs : List Read) → AreInputsAnswered failures may_leave allowed old new task inputs
+  pub source_alike : (task : Task) (inputs : List Read) → AreInputsAnswered device old new task inputs
       → lacks_source task.files inputs ≡ has_no_source task contents.files
   source_alike task inputs were =
       ap (λ b. list_any (λ property. property.skip_when_empty) task.files && b)
-      (same_reasons contents task.files inputs (all_zip_more (IsInputAnswered failures may_leave allowed old new) (IsEmptyAlike contents) alike task.files inputs were))
+      (same_reasons contents task.files inputs (all_zip_more (IsInputAnswered device old new) (IsEmptyAlike contents) alike task.files inputs were))
 
-  pub sourced : (task : Task) → WasSourced failures may_leave allowed old new task → has_no_source task contents.files ≡ false
+  pub sourced : (task : Task) → WasSourced device old new task → has_no_source task contents.files ≡ false
   sourced task was = sym (source_alike task was.0 was.1) ∙ was.2
 
-  pub sourceless : (task : Task) → WasSourceless failures may_leave allowed old new task → has_no_source task contents.files ≡ true
+  pub sourceless : (task : Task) → WasSourceless device old new task → has_no_source task contents.files ≡ true
   sourceless task was = sym (source_alike task was.0 was.1) ∙ was.2

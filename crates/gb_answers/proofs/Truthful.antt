@@ -14,9 +14,9 @@ use Rattle.gb_build.specs.InvocationAsked.{BuildsDeclared, InvocationRequests}
 use Rattle.gb_build.specs.Registering.{setting_of}
 use Rattle.gb_core.specs.Path.{is_task_path}
 use Rattle.gb_exec.specs.Asking.{ExecutionsRequest}
-use Rattle.gb_folder.specs.Calls.{Call, Lists, Reads, ReadsPart, Writes, Removes, IsPermitted, Permit, Requests, changes_at, fault_of, no_change}
+use Rattle.gb_folder.specs.Calls.{Call, Lists, Reads, ReadsPart, Writes, Removes, IsPermitted, Permit, Requests, changes_at, fault_of, no_change, Device}
 use Rattle.gb_folder.specs.Each.{Each, Ended, OrStops}
-use Rattle.gb_folder.specs.Files.{Bytes, Contents, Files, IsFolder, Place, Tearing, are_placed, is_empty}
+use Rattle.gb_folder.specs.Files.{Bytes, Contents, Files, IsFolder, Place, are_placed, is_empty}
 use Rattle.gb_folder.specs.Limits.{max_file}
 use Rattle.gb_folder.specs.Semantics.{Answer}
 use Rattle.gb_history.specs.Places.{record_place}
@@ -61,7 +61,7 @@ use Rattle.gb_task.specs.Buildable.{IsBuildable}
 use Rattle.gb_task.specs.ByOutcome.{ExecutionRequests, since_after}
 use Rattle.gb_task.specs.Current.{IsCurrentOn, IsReportedCurrent}
 use Rattle.gb_task.specs.Keeping.{IsRecordOf}
-use Rattle.gb_task.specs.Ran.{AreAnswered, GoesFrom, HaveRead, WasCleared, WasRun}
+use Rattle.gb_task.specs.Ran.{GoesFrom, HaveRead, WasCleared, WasRun}
 use Rattle.gb_task.specs.Reading.{added_of}
 use Rattle.gb_task.specs.Stages.{Clears, DeletesRecord, FullRun, IsOfFullRun, IsOfRunByChanges, RunByChanges, Silently, Stage, Stores, StoresUnless, Then, WritesAll, WritesChanges}
 use Rattle.gb_task.specs.Truth.{AreSeparate, IsTrueBeside, contents_read}
@@ -78,6 +78,7 @@ use Rattle.gb_answers.proofs.Kept.{IsWithin, all_among, each_kept, has_on_way, t
 use Rattle.gb_answers.proofs.Made.{Has, WroteFile, left_part, made_by_changes, made_in_full, right_part}
 use Rattle.gb_answers.proofs.OfPlan.{each_may, each_named}
 use Rattle.gb_answers.proofs.Step.{step}
+use Rattle.gb_folder.specs.Device.{Leads}
 
 -- ---- Lists
 
@@ -118,27 +119,27 @@ one_of P (first ∷ calls) call all (inr later) = one_of P calls call all.1 late
 -- ---- Executions
 
 -- the calls of executions are kept after those before
-module _ {F S : Type 0} (failures : F → ℕ) (may_leave : F → Tearing) (allowed : F → Call → F → Type 0) (log : F → List Call) (keeps : LogsCalls allowed log)
+module _ {F S : Type 0} (device : Device F) (log : F → List Call) (keeps : LogsCalls device.allowed log)
     (meanings : Meanings S) (rows : Rows S) (options : Options) (final : List Call) where
   abbrev Before : F → F → Type 0
-  Before old new = IsWithin failures may_leave allowed log keeps final new → IsWithin failures may_leave allowed log keeps final old
+  Before old new = IsWithin device log keeps final new → IsWithin device log keeps final old
 
-  asked_before : {permit : Permit} (old new : F) → Requests failures may_leave allowed permit old new → Before old new
-  asked_before old new requests = within_requests failures may_leave allowed log keeps final old new requests
+  asked_before : {permit : Permit} (old new : F) → Requests device permit old new → Before old new
+  asked_before old new requests = within_requests device log keeps final old new requests
 
-  done_before : (old : F) (calls : List Call) (new : F) → AreAnswered failures may_leave allowed old calls new → Before old new
-  done_before old calls new led = within_calls failures may_leave allowed log keeps final old calls new led
+  done_before : (old : F) (calls : List Call) (new : F) → Leads device old calls new → Before old new
+  done_before old calls new led = within_calls device log keeps final old calls new led
 
-  run_before : (task : Task) (last : Option Record) (result : Ending) (lines : List Text) (old new : F) → WasRun failures may_leave allowed meanings rows task options last lines result old new → Before old new
+  run_before : (task : Task) (last : Option Record) (result : Ending) (lines : List Text) (old new : F) → WasRun device meanings rows task options last lines result old new → Before old new
   run_before task last result lines old new (inl was) within = asked_before old was.1 was.2.requests (done_before was.1 was.3.0 new was.3.1 within)
   run_before task last result lines old new (inr by) within = let was = by.3 in asked_before old was.3 was.4.requests (done_before was.3 was.6.0 new was.6.1 within)
 
-  cleared_before : (task : Task) (was_read : Bool) (result : Ending) (lines : List Text) (old new : F) → WasCleared failures may_leave allowed task was_read lines result old new → Before old new
+  cleared_before : (task : Task) (was_read : Bool) (result : Ending) (lines : List Text) (old new : F) → WasCleared device task was_read lines result old new → Before old new
   cleared_before task was_read result lines old new was within = asked_before old was.0 was.1 (done_before was.0 was.3.0 new was.3.1 within)
 
   execution_before : (task : Task) (last : Option Record) (outcome : Outcome) (lines : List Text) (since old new : F)
-      → ExecutionRequests failures may_leave allowed meanings rows options task last outcome lines since old new → Before old new
-  execution_before task last outcomes.NotRun lines since old new requests within = subst (λ (f : F). IsWithin failures may_leave allowed log keeps final f) requests within
+      → ExecutionRequests device meanings rows options task last outcome lines since old new → Before old new
+  execution_before task last outcomes.NotRun lines since old new requests within = subst (λ (f : F). IsWithin device log keeps final f) requests within
   execution_before task last outcomes.Skipped lines since old new requests within = asked_before old new requests within
   execution_before task last outcomes.UpToDate lines since old new requests within = asked_before old new requests.0 within
   execution_before task last outcomes.NoSource lines since old new requests within = cleared_before task (is_some last) (Ok tt) lines old new requests within
@@ -149,8 +150,8 @@ module _ {F S : Type 0} (failures : F → ℕ) (may_leave : F → Tearing) (allo
   execution_before task last (outcomes.Failed fault) lines since old new (inr (inr was)) within = run_before task last (Err fault) lines old new was within
 
   executions_before : (rest : List Planned) (records : List (Option Record)) (reports : List TaskReport) (since old new : F)
-      → ExecutionsRequest failures may_leave allowed meanings rows options rest records reports since old new → Before old new
-  executions_before [] [] [] since old new requests within = subst (λ (f : F). IsWithin failures may_leave allowed log keeps final f) requests within
+      → ExecutionsRequest device meanings rows options rest records reports since old new → Before old new
+  executions_before [] [] [] since old new requests within = subst (λ (f : F). IsWithin device log keeps final f) requests within
   executions_before [] [] (report ∷ reports) since old new requests within = absurd requests
   executions_before [] (last ∷ records) reports since old new requests within = absurd requests
   executions_before (planned ∷ rest) [] reports since old new requests within = absurd requests
@@ -163,17 +164,17 @@ module _ {F S : Type 0} (failures : F → ℕ) (may_leave : F → Tearing) (allo
 abbrev IsTrusted : Kinds → List Bytes → Option Record → Type 0
 IsTrusted kinds all last = (run : Record) → last ≡ Some run → (true_one : IsOfTrue kinds run) × AllByRecursion (Contains all) (contents_of true_one.entry)
 
-module _ {F S : Type 0} (failures : F → ℕ) (may_leave : F → Tearing) (allowed : F → Call → F → Type 0) (log : F → List Call) (keeps : LogsCalls allowed log)
+module _ {F S : Type 0} (device : Device F) (log : F → List Call) (keeps : LogsCalls device.allowed log)
     (meanings : Meanings S) (rows : Rows S) (kinds : Kinds) (agrees : Agrees meanings rows kinds) (own_output : (kind : ℕ) → WritesItsOutput meanings kind) (options : Options)
     (made unmade : List Call) (all : List Bytes) (among : (call : Call) → Contains made call → AllByRecursion (Contains all) (content_of call)) (separate : AreCollisionFree sha256 all) where
   abbrev Stored : Call → Type 0
   Stored = StoresTruth kinds all
 
   abbrev Within : F → Type 0
-  Within state = IsWithin failures may_leave allowed log keeps made state
+  Within state = IsWithin device log keeps made state
 
   abbrev StoredFrom : F → Type 0
-  StoredFrom state = HoldsFrom failures may_leave allowed log keeps Stored made unmade state
+  StoredFrom state = HoldsFrom device log keeps Stored made unmade state
 
   no_calls : (calls : List Call) → calls ≡ [] → AllByRecursion Stored calls
   no_calls calls none = subst (AllByRecursion Stored) (sym none) tt
@@ -191,17 +192,17 @@ module _ {F S : Type 0} (failures : F → ℕ) (may_leave : F → Tearing) (allo
   reads (Writes place bytes limit answer) may = absurd may
   reads (Removes place answer) may = tt
 
-  only_read : (old new : F) → Requests failures may_leave allowed no_change old new → StoredFrom new → StoredFrom old
-  only_read old new requests later = requests_back failures may_leave allowed log keeps Stored made unmade no_change reads old new requests later
+  only_read : (old new : F) → Requests device no_change old new → StoredFrom new → StoredFrom old
+  only_read old new requests later = requests_back device log keeps Stored made unmade no_change reads old new requests later
 
   -- ---- stages
 
-  split : (here later : List Call) (old new : F) (calls : List Call) → calls ≡ here ++ later → AreAnswered failures may_leave allowed old calls new
-      → (mid : F) × AreAnswered failures may_leave allowed old here mid × AreAnswered failures may_leave allowed mid later new
-  split here later old new calls is led = parted here later old new (subst (λ (cs : List Call). AreAnswered failures may_leave allowed old cs new) is led)
+  split : (here later : List Call) (old new : F) (calls : List Call) → calls ≡ here ++ later → Leads device old calls new
+      → (mid : F) × Leads device old here mid × Leads device mid later new
+  split here later old new calls is led = parted here later old new (subst (λ (cs : List Call). Leads device old cs new) is led)
     where
-      parted : (first more : List Call) (from to : F) → AreAnswered failures may_leave allowed from (first ++ more) to
-          → (mid : F) × AreAnswered failures may_leave allowed from first mid × AreAnswered failures may_leave allowed mid more to
+      parted : (first more : List Call) (from to : F) → Leads device from (first ++ more) to
+          → (mid : F) × Leads device from first mid × Leads device mid more to
       parted [] more from to h = (from, refl, h)
       parted (call ∷ first) more from to h = let rest = parted first more h.0 to h.2 in (rest.0, (h.0, h.1, rest.1), rest.2)
 
@@ -321,10 +322,10 @@ module _ {F S : Type 0} (failures : F → ℕ) (may_leave : F → Tearing) (allo
             called (inr one) = subst (AllButLast Stored) (sym one.1) (tt, tt)
 
     -- what was written is among the contents
-    written_among : (calls : List Call) (old new : F) → AreAnswered failures may_leave allowed old calls new → Within new → (place : Place) (bytes : Bytes) → WroteFile calls place bytes → Contains all bytes
+    written_among : (calls : List Call) (old new : F) → Leads device old calls new → Within new → (place : Place) (bytes : Bytes) → WroteFile calls place bytes → Contains all bytes
     written_among calls old new led within place bytes wrote =
         (among (Writes place bytes max_file (Ok tt))
-        (one_of (λ (call : Call). fault_of call ≡ None → Contains made call) calls (Writes place bytes max_file (Ok tt)) (each_kept failures may_leave allowed log keeps made old calls new led within) wrote refl)).0
+        (one_of (λ (call : Call). fault_of call ≡ None → Contains made call) calls (Writes place bytes max_file (Ok tt)) (each_kept device log keeps made old calls new led within) wrote refl)).0
 
     -- ---- runs
 
@@ -346,23 +347,23 @@ module _ {F S : Type 0} (failures : F → ℕ) (may_leave : F → Tearing) (allo
         (deletes_record true)
         (writes_last (WritesChanges meanings rows task trees changes observed) (IsOfRunByChanges meanings rows task trees changes observed) (λ cs ls r is. at_outputs cs is.0)) calls lines result does
 
-    module _ (trees : Trees) (first read : F) (have : HaveRead failures may_leave allowed task trees first read) where
-      full : (was_read : Bool) (calls : List Call) (lines : List Text) (result : Ending) (new : F) → AreAnswered failures may_leave allowed read calls new → Within new
+    module _ (trees : Trees) (first read : F) (have : HaveRead device task trees first read) where
+      full : (was_read : Bool) (calls : List Call) (lines : List Text) (result : Ending) (new : F) → Leads device read calls new → Within new
           → FullRun meanings rows task trees was_read calls lines result → AllByRecursion Stored calls
       full was_read calls lines result new led within (inl memory) = no_calls calls memory.0
       full was_read calls lines result new led within (inr does) =
           subst (AllByRecursion Stored) (sym does.5) (all_append Stored does.0 does.1 (clears was_read does.0 does.2 does.4 does.7) (rest does.4 does.8))
         where
-          parts : (mid : F) × AreAnswered failures may_leave allowed read does.0 mid × AreAnswered failures may_leave allowed mid does.1 new
+          parts : (mid : F) × Leads device read does.0 mid × Leads device mid does.1 new
           parts = split does.0 does.1 read new calls does.5 led
 
           trees_read : AllByRecursion (Contains all) (contents_in trees)
-          trees_read = trees_among failures may_leave allowed log keeps made all among first read (within_calls failures may_leave allowed log keeps made read calls new led within) task trees have.inputs
+          trees_read = trees_among device log keeps made all among first read (within_calls device log keeps made read calls new led within) task trees have.inputs
 
           second : Then (WritesAll meanings rows task trees) (Stores task (IsOfFullRun meanings rows task trees)) does.1 does.3 result → AllByRecursion Stored does.1
           second then = subst (AllByRecursion Stored) (sym then.5) (all_append Stored then.0 then.1 (at_outputs then.0 then.7.0) (last_one then.4 then.7 then.8))
             where
-              ends : (mid : F) × AreAnswered failures may_leave allowed parts.0 then.0 mid × AreAnswered failures may_leave allowed mid then.1 new
+              ends : (mid : F) × Leads device parts.0 then.0 mid × Leads device mid then.1 new
               ends = split then.0 then.1 parts.0 new does.1 then.5 parts.2
 
               last_one : (mid : Ending) → WritesAll meanings rows task trees then.0 then.2 mid
@@ -373,7 +374,7 @@ module _ {F S : Type 0} (failures : F → ℕ) (may_leave : F → Tearing) (allo
                   (λ run of text.
                   true_text trees run (of kinds agrees) trees_read
                   (each (λ (file : Place × Bytes). WroteFile then.0 file.0 file.1) (λ (file : Place × Bytes). Contains all file.1)
-                  (λ file wrote. written_among then.0 parts.0 ends.0 ends.1 (within_calls failures may_leave allowed log keeps made ends.0 then.1 new ends.2 within) file.0 file.1 wrote) (of kinds agrees).0
+                  (λ file wrote. written_among then.0 parts.0 ends.0 ends.1 (within_calls device log keeps made ends.0 then.1 new ends.2 within) file.0 file.1 wrote) (of kinds agrees).0
                   (made_in_full kinds task trees (added_of task.files trees) (of kinds agrees).0 then.0 then.2 (of kinds agrees).1 (writes.1 kinds agrees)))
                   text)
                   then.1 then.3 result next
@@ -383,23 +384,23 @@ module _ {F S : Type 0} (failures : F → ℕ) (may_leave : F → Tearing) (allo
           rest (Err fault) h = no_calls does.1 h.0
 
       module _ (trusted : IsTrusted kinds all last) (run : Record) (is : last ≡ Some run) (one : IsTrue (has_one_writer kinds task.actions)) (changes : List Changes) (observed : List OutputFiles)
-          (goes : GoesFrom failures may_leave allowed options task run trees changes observed first read) where
-        by_changes : (calls : List Call) (lines : List Text) (result : Ending) (new : F) → AreAnswered failures may_leave allowed read calls new → Within new
+          (goes : GoesFrom device options task run trees changes observed first read) where
+        by_changes : (calls : List Call) (lines : List Text) (result : Ending) (new : F) → Leads device read calls new → Within new
             → RunByChanges meanings rows task trees changes observed calls lines result → AllByRecursion Stored calls
         by_changes calls lines result new led within does =
             subst (AllByRecursion Stored) (sym does.5) (all_append Stored does.0 does.1 (deletes_record true does.0 does.2 does.4 does.7) (rest does.4 does.8))
           where
-            parts : (mid : F) × AreAnswered failures may_leave allowed read does.0 mid × AreAnswered failures may_leave allowed mid does.1 new
+            parts : (mid : F) × Leads device read does.0 mid × Leads device mid does.1 new
             parts = split does.0 does.1 read new calls does.5 led
 
             read_within : Within read
-            read_within = within_calls failures may_leave allowed log keeps made read calls new led within
+            read_within = within_calls device log keeps made read calls new led within
 
             trees_read : AllByRecursion (Contains all) (contents_in trees)
-            trees_read = trees_among failures may_leave allowed log keeps made all among first read read_within task trees have.inputs
+            trees_read = trees_among device log keeps made all among first read read_within task trees have.inputs
 
             all_read : AllByRecursion (Contains all) (contents_read trees observed)
-            all_read = all_among failures may_leave allowed log keeps made all among first read read_within task trees observed have.inputs goes.outputs
+            all_read = all_among device log keeps made all among first read read_within task trees observed have.inputs goes.outputs
 
             observed_read : AllByRecursion (Contains all) (contents_in (map (λ output. (output.name, output.files)) observed))
             observed_read = right_part (Contains all) (contents_in trees) (contents_in (map (λ output. (output.name, output.files)) observed)) all_read
@@ -416,17 +417,17 @@ module _ {F S : Type 0} (failures : F → ℕ) (may_leave : F → Tearing) (allo
             }
 
             from : (before : Trees) × (existing : Files) × IsFolder existing × IsTrue (are_placed existing) × GoesOn kinds task before trees changes observed existing
-            from = goes_from_true failures may_leave allowed kinds options task run trees changes observed first read lie one known.0.held goes beside
+            from = goes_from_true device kinds options task run trees changes observed first read lie one known.0.held goes beside
 
             second : Then (WritesChanges meanings rows task trees changes observed) (Stores task (IsOfRunByChanges meanings rows task trees changes observed)) does.1 does.3 result → AllByRecursion Stored does.1
             second then = subst (AllByRecursion Stored) (sym then.5) (all_append Stored then.0 then.1 (at_outputs then.0 then.7.0) (last_one then.4 then.7 then.8))
               where
-                ends : (mid : F) × AreAnswered failures may_leave allowed parts.0 then.0 mid × AreAnswered failures may_leave allowed mid then.1 new
+                ends : (mid : F) × Leads device parts.0 then.0 mid × Leads device mid then.1 new
                 ends = split then.0 then.1 parts.0 new does.1 then.5 parts.2
 
                 now_among : (file : Place × Bytes) → WroteFile then.0 file.0 file.1 ⊎ Contains all file.1 → Contains all file.1
                 now_among file (inl wrote) =
-                    written_among then.0 parts.0 ends.0 ends.1 (within_calls failures may_leave allowed log keeps made ends.0 then.1 new ends.2 within) file.0 file.1 wrote
+                    written_among then.0 parts.0 ends.0 ends.1 (within_calls device log keeps made ends.0 then.1 new ends.2 within) file.0 file.1 wrote
                 now_among file (inr there) = there
 
                 last_one : (mid : Ending) → WritesChanges meanings rows task trees changes observed then.0 then.2 mid
@@ -450,28 +451,28 @@ module _ {F S : Type 0} (failures : F → ℕ) (may_leave : F → Tearing) (allo
 
     -- ---- executions
 
-    cleared : (result : Ending) (lines : List Text) (old new : F) → WasCleared failures may_leave allowed task (is_some last) lines result old new → StoredFrom new → StoredFrom old
+    cleared : (result : Ending) (lines : List Text) (old new : F) → WasCleared device task (is_some last) lines result old new → StoredFrom new → StoredFrom old
     cleared result lines old new was later =
         let all_clear : AllByRecursion Stored was.3.0 = clears (is_some last) was.3.0 lines result was.3.2 in
         only_read old was.0 was.1
-        (calls_back failures may_leave allowed log keeps Stored made unmade was.0 was.3.0 new was.3.1 (all_but_last Stored was.3.0 all_clear) (λ within. all_clear) later)
+        (calls_back device log keeps Stored made unmade was.0 was.3.0 new was.3.1 (all_but_last Stored was.3.0 all_clear) (λ within. all_clear) later)
 
     ran : (result : Ending) (lines : List Text) (old new : F) → (Within old → IsTrusted kinds all last)
-        → WasRun failures may_leave allowed meanings rows task options last lines result old new → StoredFrom new → StoredFrom old
+        → WasRun device meanings rows task options last lines result old new → StoredFrom new → StoredFrom old
     ran result lines old new trusted (inl was) later =
         only_read old was.1 was.2.requests
-        (calls_back failures may_leave allowed log keeps Stored made unmade was.1 was.3.0 new was.3.1 (full_last was.0 (is_some last) was.3.0 lines result was.3.2)
+        (calls_back device log keeps Stored made unmade was.1 was.3.0 new was.3.1 (full_last was.0 (is_some last) was.3.0 lines result was.3.2)
         (λ within. full was.0 old was.1 was.2 (is_some last) was.3.0 lines result new was.3.1 within was.3.2) later)
     ran result lines old new trusted (inr by) later =
         let was = by.3 in
         only_read old was.3 was.4.requests
-        (calls_back failures may_leave allowed log keeps Stored made unmade was.3 was.6.0 new was.6.1 (changes_last was.0 was.1 was.2 was.6.0 lines result was.6.2)
+        (calls_back device log keeps Stored made unmade was.3 was.6.0 new was.6.1 (changes_last was.0 was.1 was.2 was.6.0 lines result was.6.2)
         (λ within.
-        by_changes was.0 old was.3 was.4 (trusted (run_before failures may_leave allowed log keeps meanings rows options made task last result lines old new (inr by) within))
+        by_changes was.0 old was.3 was.4 (trusted (run_before device log keeps meanings rows options made task last result lines old new (inr by) within))
         by.0 by.1 (by.2 kinds agrees) was.1 was.2 was.5 was.6.0 lines result new was.6.1 within was.6.2) later)
 
     execution : (outcome : Outcome) (lines : List Text) (since old new : F) → (Within old → IsTrusted kinds all last)
-        → ExecutionRequests failures may_leave allowed meanings rows options task last outcome lines since old new → StoredFrom new → StoredFrom old
+        → ExecutionRequests device meanings rows options task last outcome lines since old new → StoredFrom new → StoredFrom old
     execution outcomes.NotRun lines since old new trusted requests later = subst (λ (f : F). StoredFrom f) requests later
     execution outcomes.Skipped lines since old new trusted requests later = only_read old new requests later
     execution outcomes.UpToDate lines since old new trusted requests later = only_read old new requests.0 later
@@ -483,8 +484,8 @@ module _ {F S : Type 0} (failures : F → ℕ) (may_leave : F → Tearing) (allo
     execution (outcomes.Failed fault) lines since old new trusted (inr (inr was)) later = ran (Err fault) lines old new trusted was later
 
     -- what is reported as up to date had the right files
-    had_right : (since new : F) → IsTrusted kinds all last → Within new → IsReportedCurrent failures may_leave allowed options task last since new outcomes.UpToDate → is_empty task.actions ≡ false
-        → HadRight failures may_leave allowed log kinds made task
+    had_right : (since new : F) → IsTrusted kinds all last → Within new → IsReportedCurrent device options task last since new outcomes.UpToDate → is_empty task.actions ≡ false
+        → HadRight device log kinds made task
     had_right since new trusted within current acts = record {
       since = since;
       at = new;
@@ -496,17 +497,17 @@ module _ {F S : Type 0} (failures : F → ℕ) (may_leave : F → Tearing) (allo
       observed = on.observed;
       outputs = on.outputs_read;
       formed = on.formed;
-      made = up_to_date_is_made failures may_leave allowed kinds options task last since new lie on beside;
+      made = up_to_date_is_made device kinds options task last since new lie on beside;
     }
       where
-        on : IsCurrentOn failures may_leave allowed options task last since new
+        on : IsCurrentOn device options task last since new
         on = current refl acts
 
         known : (true_one : IsOfTrue kinds on.run) × AllByRecursion (Contains all) (contents_of true_one.entry)
         known = trusted on.run on.remembered
 
         all_read : AllByRecursion (Contains all) (contents_read on.trees on.observed)
-        all_read = all_among failures may_leave allowed log keeps made all among since new within task on.trees on.observed on.inputs_read on.outputs_read
+        all_read = all_among device log keeps made all among since new within task on.trees on.observed on.inputs_read on.outputs_read
 
         beside : IsTrueBeside kinds on.run (contents_read on.trees on.observed)
         beside = record {
@@ -520,7 +521,7 @@ module _ {F S : Type 0} (failures : F → ℕ) (may_leave : F → Tearing) (allo
 
   executed : (rest : List Planned) (records : List (Option Record)) (reports : List TaskReport) (since old new : F) → AllByRecursion (MayStep meanings rows) rest
       → AllByRecursion (λ (path : Path). IsTrue (is_task_path path)) (order rest) → (Within old → AllByRecursion (IsTrusted kinds all) records)
-      → ExecutionsRequest failures may_leave allowed meanings rows options rest records reports since old new → StoredFrom new → StoredFrom old
+      → ExecutionsRequest device meanings rows options rest records reports since old new → StoredFrom new → StoredFrom old
   executed [] [] [] since old new may named trusted requests later = subst (λ (f : F). StoredFrom f) requests later
   executed [] [] (report ∷ reports) since old new may named trusted requests later = absurd requests
   executed [] (last ∷ records) reports since old new may named trusted requests later = absurd requests
@@ -530,12 +531,12 @@ module _ {F S : Type 0} (failures : F → ℕ) (may_leave : F → Tearing) (allo
       execution planned.task last may.0.0 may.0.2 named.0 report.outcome report.lines since old requests.0 (λ within. (trusted within).0) requests.1
       (executed rest records reports (since_after report.outcome since requests.0) requests.0 new may.1 named.1
       (λ within.
-      (trusted (execution_before failures may_leave allowed log keeps meanings rows options made planned.task last report.outcome report.lines since old requests.0 requests.1 within)).1)
+      (trusted (execution_before device log keeps meanings rows options made planned.task last report.outcome report.lines since old requests.0 requests.1 within)).1)
       requests.2 later)
 
   -- in a dry run
   dry : (rest : List Planned) (records : List (Option Record)) (since old new : F)
-      → ExecutionsRequest failures may_leave allowed meanings rows options rest records (dry_reports rest) since old new → StoredFrom new → StoredFrom old
+      → ExecutionsRequest device meanings rows options rest records (dry_reports rest) since old new → StoredFrom new → StoredFrom old
   dry [] [] since old new requests later = subst (λ (f : F). StoredFrom f) requests later
   dry [] (last ∷ records) since old new requests later = absurd requests
   dry (planned ∷ rest) [] since old new requests later = absurd requests
@@ -544,20 +545,20 @@ module _ {F S : Type 0} (failures : F → ℕ) (may_leave : F → Tearing) (allo
   -- ---- what was reported, if all calls were made
 
   abbrev AreRight : List Planned → List TaskReport → Type 0
-  AreRight rest reports = AllZip (IsCurrentRight failures may_leave allowed log kinds made) rest reports
+  AreRight rest reports = AllZip (IsCurrentRight device log kinds made) rest reports
 
   each_right : (rest : List Planned) (records : List (Option Record)) (reports : List TaskReport) (since old new : F) → AllByRecursion (MayStep meanings rows) rest
       → AllByRecursion (λ (path : Path). IsTrue (is_task_path path)) (order rest) → AllByRecursion (IsTrusted kinds all) records
-      → ExecutionsRequest failures may_leave allowed meanings rows options rest records reports since old new → Within new → AreRight rest reports
+      → ExecutionsRequest device meanings rows options rest records reports since old new → Within new → AreRight rest reports
   each_right [] [] [] since old new may named trusted requests within = tt
   each_right [] [] (report ∷ reports) since old new may named trusted requests within = absurd requests
   each_right [] (last ∷ records) reports since old new may named trusted requests within = absurd requests
   each_right (planned ∷ rest) [] reports since old new may named trusted requests within = absurd requests
   each_right (planned ∷ rest) (last ∷ records) [] since old new may named trusted requests within = absurd requests
   each_right (planned ∷ rest) (last ∷ records) (report ∷ reports) since old new may named trusted requests within =
-      let mid = executions_before failures may_leave allowed log keeps meanings rows options made rest records reports (since_after report.outcome since requests.0) requests.0 new requests.2 within in (
+      let mid = executions_before device log keeps meanings rows options made rest records reports (since_after report.outcome since requests.0) requests.0 new requests.2 within in (
         λ is acts. had_right planned.task last may.0.0 may.0.2 named.0 since requests.0 trusted.0 mid
-            (subst (λ (o : Outcome). ExecutionRequests failures may_leave allowed meanings rows options planned.task last o report.lines since old requests.0) is requests.1).1 acts,
+            (subst (λ (o : Outcome). ExecutionRequests device meanings rows options planned.task last o report.lines since old requests.0) is requests.1).1 acts,
         each_right rest records reports (since_after report.outcome since requests.0) requests.0 new may.1 named.1 trusted.1 requests.2 within,
       )
 
@@ -569,11 +570,11 @@ module _ {F S : Type 0} (failures : F → ℕ) (may_leave : F → Tearing) (allo
 -- ---- Builds
 
 -- a record that was read of a task was stored by an earlier build, so it is true
-trusted_record : {F : Type 0} (failures : F → ℕ) (may_leave : F → Tearing) (allowed : F → Call → F → Type 0) (log : F → List Call) (keeps : LogsCalls allowed log) (kinds : Kinds)
-    (all : List Bytes) (earlier final : List Call) → AllByRecursion (StoresTruth kinds all) earlier → ReadsOnly earlier final → (old new : F) → IsWithin failures may_leave allowed log keeps final new
-    → (path : Path) (last : Option Record) → IsTrue (is_task_path path) → WasAnswered failures may_leave allowed old new path last → IsTrusted kinds all last
-trusted_record failures may_leave allowed log keeps kinds all earlier final stored only old new within path None named answered run is = absurd (let e = is in (cc))
-trusted_record failures may_leave allowed log keeps kinds all earlier final stored only old new within path (Some said) named answered run is = (
+trusted_record : {F : Type 0} (device : Device F) (log : F → List Call) (keeps : LogsCalls device.allowed log) (kinds : Kinds)
+    (all : List Bytes) (earlier final : List Call) → AllByRecursion (StoresTruth kinds all) earlier → ReadsOnly earlier final → (old new : F) → IsWithin device log keeps final new
+    → (path : Path) (last : Option Record) → IsTrue (is_task_path path) → WasAnswered device old new path last → IsTrusted kinds all last
+trusted_record device log keeps kinds all earlier final stored only old new within path None named answered run is = absurd (let e = is in (cc))
+trusted_record device log keeps kinds all earlier final stored only old new within path (Some said) named answered run is = (
   record {
     held = subst IsWellFormed whole answered.1.held;
     entry = text.entry;
@@ -585,7 +586,7 @@ trusted_record failures may_leave allowed log keeps kinds all earlier final stor
   where
     written : (limit : ℕ) × (answer : Answer) × Contains earlier (Writes (record_place path) answered.0 limit answer)
     written = only path said answered.0 answered.1
-        (has_on_way failures may_leave allowed log keeps final (Reads (record_place path) max_record (Ok answered.0)) old new refl answered.2 within)
+        (has_on_way device log keeps final (Reads (record_place path) max_record (Ok answered.0)) old new refl answered.2 within)
 
     text : IsTrueText kinds all (record_place path) answered.0
     text = member (StoresTruth kinds all) earlier (Writes (record_place path) answered.0 written.0 written.1) stored written.2 refl
@@ -597,85 +598,85 @@ trusted_record failures may_leave allowed log keeps kinds all earlier final stor
     whole : said ≡ run
     whole = let e = is in (cc)
 
-trusted_records : {F : Type 0} (failures : F → ℕ) (may_leave : F → Tearing) (allowed : F → Call → F → Type 0) (log : F → List Call) (keeps : LogsCalls allowed log) (kinds : Kinds)
-    (all : List Bytes) (earlier final : List Call) → AllByRecursion (StoresTruth kinds all) earlier → ReadsOnly earlier final → (old new : F) → IsWithin failures may_leave allowed log keeps final new
+trusted_records : {F : Type 0} (device : Device F) (log : F → List Call) (keeps : LogsCalls device.allowed log) (kinds : Kinds)
+    (all : List Bytes) (earlier final : List Call) → AllByRecursion (StoresTruth kinds all) earlier → ReadsOnly earlier final → (old new : F) → IsWithin device log keeps final new
     → (paths : List Path) (records : List (Option Record)) → AllByRecursion (λ (path : Path). IsTrue (is_task_path path)) paths
-    → AllZip (WasAnswered failures may_leave allowed old new) paths records → AllByRecursion (IsTrusted kinds all) records
-trusted_records failures may_leave allowed log keeps kinds all earlier final stored only old new within [] [] named answered = tt
-trusted_records failures may_leave allowed log keeps kinds all earlier final stored only old new within [] (last ∷ records) named answered = absurd answered
-trusted_records failures may_leave allowed log keeps kinds all earlier final stored only old new within (path ∷ paths) [] named answered = absurd answered
-trusted_records failures may_leave allowed log keeps kinds all earlier final stored only old new within (path ∷ paths) (last ∷ records) named answered = (
-  trusted_record failures may_leave allowed log keeps kinds all earlier final stored only old new within path last named.0 answered.0,
-  trusted_records failures may_leave allowed log keeps kinds all earlier final stored only old new within paths records named.1 answered.1,
+    → AllZip (WasAnswered device old new) paths records → AllByRecursion (IsTrusted kinds all) records
+trusted_records device log keeps kinds all earlier final stored only old new within [] [] named answered = tt
+trusted_records device log keeps kinds all earlier final stored only old new within [] (last ∷ records) named answered = absurd answered
+trusted_records device log keeps kinds all earlier final stored only old new within (path ∷ paths) [] named answered = absurd answered
+trusted_records device log keeps kinds all earlier final stored only old new within (path ∷ paths) (last ∷ records) named answered = (
+  trusted_record device log keeps kinds all earlier final stored only old new within path last named.0 answered.0,
+  trusted_records device log keeps kinds all earlier final stored only old new within paths records named.1 answered.1,
 )
 
-module _ {F M N Z S A : Type 0} (failures : F → ℕ) (may_leave : F → Tearing) (allowed : F → Call → F → Type 0) (tables : Tables M N Z S A)
-    (own_output : (kind : ℕ) → WritesItsOutput tables.shapes kind) (log : F → List Call) (keeps : LogsCalls allowed log) (kinds : Kinds) (agrees : Agrees tables.shapes tables.kinds kinds)
+module _ {F M N Z S A : Type 0} (device : Device F) (tables : Tables M N Z S A)
+    (own_output : (kind : ℕ) → WritesItsOutput tables.shapes kind) (log : F → List Call) (keeps : LogsCalls device.allowed log) (kinds : Kinds) (agrees : Agrees tables.shapes tables.kinds kinds)
     (all : List Bytes) (separate : AreCollisionFree sha256 all) where
   abbrev Build : Type 0
-  Build = BuildWithLog failures may_leave allowed log tables kinds
+  Build = BuildWithLog device log tables kinds
 
   module _ (earlier : List Call) (stored : AllByRecursion (StoresTruth kinds all) earlier) (invocation : Invocation) (old new : F) (begins : log old ≡ [])
       (made unmade : List Call) (cut : log new ≡ made ++ unmade) (only : ReadsOnly earlier made)
       (among : (call : Call) → Contains made call → AllByRecursion (Contains all) (content_of call)) where
     abbrev StoredAfter : F → Type 0
-    StoredAfter state = HoldsFrom failures may_leave allowed log keeps (StoresTruth kinds all) made unmade state
+    StoredAfter state = HoldsFrom device log keeps (StoresTruth kinds all) made unmade state
 
     all_at_end : StoredAfter new
-    all_at_end = at_last failures may_leave allowed log keeps (StoresTruth kinds all) made unmade new cut
+    all_at_end = at_last device log keeps (StoresTruth kinds all) made unmade new cut
 
     all_from : StoredAfter old → AllByRecursion (StoresTruth kinds all) made
-    all_from later = from_first failures may_leave allowed log keeps (StoresTruth kinds all) made unmade old begins later
+    all_from later = from_first device log keeps (StoresTruth kinds all) made unmade old begins later
 
-    read_before : (from to : F) → Requests failures may_leave allowed no_change from to → StoredAfter to → StoredAfter from
+    read_before : (from to : F) → Requests device no_change from to → StoredAfter to → StoredAfter from
     read_before from to requests later =
-        only_read failures may_leave allowed log keeps tables.shapes tables.kinds kinds agrees own_output invocation.options made unmade all among separate from to requests later
+        only_read device log keeps tables.shapes tables.kinds kinds agrees own_output invocation.options made unmade all among separate from to requests later
 
     -- a build that ended made all calls
     all_made : unmade ≡ [] → log new ≡ made
     all_made ended = cut ∙ ap (λ (calls : List Call). made ++ calls) ended ∙ append-nil made
 
-    new_within : unmade ≡ [] → IsWithin failures may_leave allowed log keeps made new
+    new_within : unmade ≡ [] → IsWithin device log keeps made new
     new_within ended = record { later = []; is = sym (all_made ended) ∙ sym (append-nil (log new)) }
 
-    module _ (report : Report) (builds : BuildsDeclared failures may_leave allowed tables invocation report old new) where
-      trusted : IsWithin failures may_leave allowed log keeps made builds.plan.begun → invocation.options.dry_run ≡ false → AllByRecursion (IsTrusted kinds all) builds.plan.records
+    module _ (report : Report) (builds : BuildsDeclared device tables invocation report old new) where
+      trusted : IsWithin device log keeps made builds.plan.begun → invocation.options.dry_run ≡ false → AllByRecursion (IsTrusted kinds all) builds.plan.records
       trusted within wet =
-          trusted_records failures may_leave allowed log keeps kinds all earlier made stored only builds.begun builds.plan.begun within
-          (order builds.by.plan) builds.plan.records (each_named failures may_leave allowed tables invocation report old new builds) (builds.plan.answered wet)
+          trusted_records device log keeps kinds all earlier made stored only builds.begun builds.plan.begun within
+          (order builds.by.plan) builds.plan.records (each_named device tables invocation report old new builds) (builds.plan.answered wet)
 
       executions_stored : StoredAfter builds.plan.begun
       executions_stored = elim builds.by.outlines [
-        | inl is_dry ↦ dry failures may_leave allowed log keeps tables.shapes tables.kinds kinds agrees own_output invocation.options made unmade all among separate
+        | inl is_dry ↦ dry device log keeps tables.shapes tables.kinds kinds agrees own_output invocation.options made unmade all among separate
             builds.by.plan builds.plan.records builds.plan.begun builds.plan.begun new
-            (subst (λ (reports : List TaskReport). ExecutionsRequest failures may_leave allowed tables.shapes tables.kinds invocation.options builds.by.plan builds.plan.records reports builds.plan.begun builds.plan.begun new) is_dry.1
+            (subst (λ (reports : List TaskReport). ExecutionsRequest device tables.shapes tables.kinds invocation.options builds.by.plan builds.plan.records reports builds.plan.begun builds.plan.begun new) is_dry.1
             builds.plan.executions) all_at_end
-        | inr wet ↦ executed failures may_leave allowed log keeps tables.shapes tables.kinds kinds agrees own_output invocation.options made unmade all among separate
+        | inr wet ↦ executed device log keeps tables.shapes tables.kinds kinds agrees own_output invocation.options made unmade all among separate
             builds.by.plan builds.plan.records report.tasks builds.plan.begun builds.plan.begun new
-            (each_may failures may_leave allowed tables invocation report old new builds) (each_named failures may_leave allowed tables invocation report old new builds)
+            (each_may device tables invocation report old new builds) (each_named device tables invocation report old new builds)
             (λ within. trusted within wet.0) builds.plan.executions all_at_end
       ]
 
       all_stored : AllByRecursion (StoresTruth kinds all) made
       all_stored = all_from (read_before old builds.begun builds.first (read_before builds.begun builds.plan.begun builds.plan.first executions_stored))
 
-      plan_within : unmade ≡ [] → IsWithin failures may_leave allowed log keeps made builds.plan.begun
+      plan_within : unmade ≡ [] → IsWithin device log keeps made builds.plan.begun
       plan_within ended =
-          executions_before failures may_leave allowed log keeps tables.shapes tables.kinds invocation.options made builds.by.plan builds.plan.records report.tasks
+          executions_before device log keeps tables.shapes tables.kinds invocation.options made builds.by.plan builds.plan.records report.tasks
           builds.plan.begun builds.plan.begun new builds.plan.executions (new_within ended)
 
-      all_right : unmade ≡ [] → AllZip (IsCurrentRight failures may_leave allowed log kinds made) builds.by.plan report.tasks
+      all_right : unmade ≡ [] → AllZip (IsCurrentRight device log kinds made) builds.by.plan report.tasks
       all_right ended = elim builds.by.outlines [
-        | inl is_dry ↦ subst (λ (reports : List TaskReport). AllZip (IsCurrentRight failures may_leave allowed log kinds made) builds.by.plan reports) (sym is_dry.1)
-            (dry_right failures may_leave allowed log keeps tables.shapes tables.kinds kinds agrees own_output invocation.options made unmade all among separate builds.by.plan)
-        | inr wet ↦ each_right failures may_leave allowed log keeps tables.shapes tables.kinds kinds agrees own_output invocation.options made unmade all among separate
+        | inl is_dry ↦ subst (λ (reports : List TaskReport). AllZip (IsCurrentRight device log kinds made) builds.by.plan reports) (sym is_dry.1)
+            (dry_right device log keeps tables.shapes tables.kinds kinds agrees own_output invocation.options made unmade all among separate builds.by.plan)
+        | inr wet ↦ each_right device log keeps tables.shapes tables.kinds kinds agrees own_output invocation.options made unmade all among separate
             builds.by.plan builds.plan.records report.tasks builds.plan.begun builds.plan.begun new
-            (each_may failures may_leave allowed tables invocation report old new builds) (each_named failures may_leave allowed tables invocation report old new builds)
+            (each_may device tables invocation report old new builds) (each_named device tables invocation report old new builds)
             (trusted (plan_within ended) wet.0) builds.plan.executions (new_within ended)
       ]
 
       -- in contents that answer the calls
-      module _ (ended : unmade ≡ []) (none_failed : has_failure report ≡ false) (start end : Contents) (answers : AnswersSoundly (may_leave old) start (log new) end)
+      module _ (ended : unmade ≡ []) (none_failed : has_failure report ≡ false) (start end : Contents) (answers : AnswersSoundly (device.may_leave old) start (log new) end)
           (none_shared : AreCollisionFree sha256 (all ++ contents_outside start ++ contents_outside end)) where
         abbrev wider : List Bytes
         wider = all ++ contents_outside start ++ contents_outside end
@@ -687,51 +688,51 @@ module _ {F M N Z S A : Type 0} (failures : F → ℕ) (may_leave : F → Tearin
         true_within records trusts = each (IsTrusted kinds all) (IsTrueWithin kinds wider)
             (λ last trust run is. let known = trust run is in (known.0, λ c has. in_wider c (member (Contains all) (contents_of known.0.entry) c known.1 (listed (contents_of known.0.entry) c has)))) records trusts
 
-        left : IsFromScratch (setting_of tables kinds (may_leave old)) start invocation report end
+        left : IsFromScratch (setting_of tables kinds (device.may_leave old)) start invocation report end
         left =
-            from_scratch_left failures may_leave allowed tables
-            (λ leaves Shows are for_kinds for_agrees options plan. step failures may_leave allowed leaves Shows are tables.shapes tables.kinds for_kinds for_agrees own_output options plan)
+            from_scratch_left device tables
+            (λ leaves Shows are for_kinds for_agrees options plan. step device leaves Shows are tables.shapes tables.kinds for_kinds for_agrees own_output options plan)
             log keeps kinds agrees invocation report old new start end begins answers builds none_failed wider none_shared
             (λ c h. in_left c (all ++ contents_outside start) (contents_outside end) (in_right c all (contents_outside start) h))
             (λ c h. in_right c (all ++ contents_outside start) (contents_outside end) h)
             (λ shows wet. true_within builds.plan.records (trusted (plan_within ended) wet))
 
-    stored_by : (answer : Result Report Fault) → InvocationRequests failures may_leave allowed tables invocation answer old new → AllByRecursion (StoresTruth kinds all) made
+    stored_by : (answer : Result Report Fault) → InvocationRequests device tables invocation answer old new → AllByRecursion (StoresTruth kinds all) made
     stored_by (Ok report) builds = all_stored report builds
     stored_by (Err fault) requests = all_from (read_before old new requests all_at_end)
 
-    current_by : unmade ≡ [] → (answer : Result Report Fault) (requests : InvocationRequests failures may_leave allowed tables invocation answer old new)
-        → AreCurrentRight failures may_leave allowed log tables kinds invocation answer old new requests
+    current_by : unmade ≡ [] → (answer : Result Report Fault) (requests : InvocationRequests device tables invocation answer old new)
+        → AreCurrentRight device log tables kinds invocation answer old new requests
     current_by ended (Ok report) builds =
-        subst (λ (calls : List Call). AllZip (IsCurrentRight failures may_leave allowed log kinds calls) builds.by.plan report.tasks) (sym (all_made ended)) (all_right report builds ended)
+        subst (λ (calls : List Call). AllZip (IsCurrentRight device log kinds calls) builds.by.plan report.tasks) (sym (all_made ended)) (all_right report builds ended)
     current_by ended (Err fault) requests = tt
 
   truthful : (earlier : List Call) → AllByRecursion (StoresTruth kinds all) earlier → (build : Build) → ReadsOnly earlier build.made
-      → ((call : Call) → Contains build.made call → AllByRecursion (Contains all) (content_of call)) → IsTruthful failures may_leave allowed log tables kinds all build
+      → ((call : Call) → Contains build.made call → AllByRecursion (Contains all) (content_of call)) → IsTruthful device log tables kinds all build
   truthful earlier stored build only among = record {
     stored = stored_by earlier stored build.invocation build.old build.new build.begins build.made build.unmade build.cut only among build.answer build.requests;
     current = λ ended. current_by earlier stored build.invocation build.old build.new build.begins build.made build.unmade build.cut only among ended build.answer build.requests;
     left = λ ended report is none_failed start end answers none_shared.
         left earlier stored build.invocation build.old build.new build.begins build.made build.unmade build.cut only among report
-        (subst (λ (answer : Result Report Fault). InvocationRequests failures may_leave allowed tables build.invocation answer build.old build.new) is build.requests) ended none_failed start end answers none_shared;
+        (subst (λ (answer : Result Report Fault). InvocationRequests device tables build.invocation answer build.old build.new) is build.requests) ended none_failed start end answers none_shared;
   }
 
   all_truthful : (earlier : List Call) (builds : List Build) → AllByRecursion (StoresTruth kinds all) earlier
       → EachReadsOnly earlier (map (λ (build : Build). build.made) builds)
       → AllByRecursion (λ (calls : List Call). AllByRecursion (λ (call : Call). AllByRecursion (Contains all) (content_of call)) calls) (map (λ (build : Build). build.made) builds)
-      → AllByRecursion (IsTruthful failures may_leave allowed log tables kinds all) builds
+      → AllByRecursion (IsTruthful device log tables kinds all) builds
   all_truthful earlier [] stored only among = tt
   all_truthful earlier (build ∷ builds) stored only among =
       let here = truthful earlier stored build only.0 (λ call has. member (λ (c : Call). AllByRecursion (Contains all) (content_of c)) build.made call among.0 has) in
       (here, all_truthful (earlier ++ build.made) builds (all_append (StoresTruth kinds all) earlier build.made stored here.stored) only.1 among.1)
 
 -- records stay true
-pub records_stay_true : {F M N Z S A : Type 0} (failures : F → ℕ) (may_leave : F → Tearing) (allowed : F → Call → F → Type 0) (tables : Tables M N Z S A)
-    → ((kind : ℕ) → WritesItsOutput tables.shapes kind) → RecordsStayTrue failures may_leave allowed tables
-records_stay_true failures may_leave allowed tables own_output log keeps kinds agrees builds separate only =
-    let kept = map (λ (build : BuildWithLog failures may_leave allowed log tables kinds). build.made) builds in
+pub records_stay_true : {F M N Z S A : Type 0} (device : Device F) (tables : Tables M N Z S A)
+    → ((kind : ℕ) → WritesItsOutput tables.shapes kind) → RecordsStayTrue device tables
+records_stay_true device tables own_output log keeps kinds agrees builds separate only =
+    let kept = map (λ (build : BuildWithLog device log tables kinds). build.made) builds in
     let all = flat_map (λ (calls : List Call). flat_map content_of calls) kept in
-    all_truthful failures may_leave allowed tables own_output log keeps kinds agrees all separate [] builds tt only
+    all_truthful device tables own_output log keeps kinds agrees all separate [] builds tt only
     (each (λ (calls : List Call). AllByRecursion (Contains all) (flat_map content_of calls)) (λ (calls : List Call). AllByRecursion (λ (call : Call). AllByRecursion (Contains all) (content_of call)) calls)
     (λ calls h. each_part (Contains all) content_of calls h) kept
     (parts_in (λ (calls : List Call). flat_map content_of calls) kept all (λ bytes has. has)))

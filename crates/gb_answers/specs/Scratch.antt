@@ -1,10 +1,10 @@
 -- Of any folder that keeps its calls: in contents that answer them, a build in which no task failed leaves
 -- what a build from scratch makes.
-use Rattle.std.specs.Prelude.{ℕ, ◌≡◌, ◌++◌, false, List, [], Ok}
+use Rattle.std.specs.Prelude.{◌≡◌, ◌++◌, false, List, [], Ok}
 use Rattle.sha2.specs.Sha256.{sha256}
 use Rattle.gb_build.specs.InvocationAsked.{InvocationRequests}
 use Rattle.gb_build.specs.Registering.{setting_of}
-use Rattle.gb_folder.specs.Calls.{Call}
+use Rattle.gb_folder.specs.Calls.{Call, Device}
 use Rattle.gb_folder.specs.Files.{Contents, Tearing}
 use Rattle.gb_meaning.specs.Events.{Setting, has_failure}
 use Rattle.gb_meaning.specs.Every.{IsFromScratch}
@@ -30,17 +30,17 @@ pub record IsAnsweredBy (leaves : Tearing) (setting : Setting) (remembered : Mem
 
 -- In these contents a build in which no task failed leaves what its unskipped tasks make from scratch on the
 -- first ones.
-abbrev pub AnsweredSuccessIsFromScratch : {F M N Z S A : Type 0} → (F → ℕ) → (F → Tearing)
-    → (F → Call → F → Type 0) → Tables M N Z S A → Type 0
-AnsweredSuccessIsFromScratch {F = F} failures may_leave allowed tables =
-    (log : F → List Call) → LogsCalls allowed log
+abbrev pub AnsweredSuccessIsFromScratch : {F M N Z S A : Type 0} → Device F → Tables M N Z S A → Type 0
+AnsweredSuccessIsFromScratch {F = F} device tables =
+    (log : F → List Call) → LogsCalls device.allowed log
     → (kinds : Kinds) → Agrees tables.shapes tables.kinds kinds
     → (invocation : Invocation) (report : Report) (old new : F) (start end : Contents) (remembered : Memory)
     → log old ≡ []
-    → IsAnsweredBy (may_leave old) (setting_of tables kinds (may_leave old)) remembered (log new) start end
-    → InvocationRequests failures may_leave allowed tables invocation (Ok report) old new
+    → IsAnsweredBy (device.may_leave old) (setting_of tables kinds (device.may_leave old)) remembered
+    (log new) start end
+    → InvocationRequests device tables invocation (Ok report) old new
     → has_failure report ≡ false
-    → IsFromScratch (setting_of tables kinds (may_leave old)) start invocation report end
+    → IsFromScratch (setting_of tables kinds (device.may_leave old)) start invocation report end
 
 -- The same of one invocation on a folder that kept these calls of it, and none before: in any contents that
 -- answer them and hold true records, they leave what is made from scratch, if no two contents share a digest.

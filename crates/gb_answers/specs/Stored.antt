@@ -7,8 +7,8 @@ use Rattle.gb_action.specs.declared.output.OutputFiles.{OutputFiles}
 use Rattle.gb_build.specs.InvocationAsked.{InvocationRequests}
 use Rattle.gb_build.specs.Registering.{setting_of}
 use Rattle.gb_core.specs.Path.{is_task_path}
-use Rattle.gb_folder.specs.Calls.{Call, Lists, Reads, ReadsPart, Writes, Removes}
-use Rattle.gb_folder.specs.Files.{Bytes, Contents, Place, Tearing, is_empty, is_own}
+use Rattle.gb_folder.specs.Calls.{Call, Lists, Reads, ReadsPart, Writes, Removes, Device}
+use Rattle.gb_folder.specs.Files.{Bytes, Contents, Place, is_empty, is_own}
 use Rattle.gb_folder.specs.Semantics.{Answer}
 use Rattle.gb_history.specs.Places.{record_place}
 use Rattle.gb_history.specs.Record.{Record}
@@ -77,7 +77,7 @@ EachReadsOnly earlier (calls ∷ builds) = ReadsOnly earlier calls × EachReadsO
 
 -- ---- Builds
 
-module _ {F : Type 0} (failures : F → ℕ) (may_leave : F → Tearing) (allowed : F → Call → F → Type 0)
+module _ {F : Type 0} (device : Device F)
     (log : F → List Call) (kinds : Kinds) where
   -- Up to some state, calls among these, without a change between them, had returned trees of the task's
   -- inputs and files of its outputs, and the files are what its actions make of the trees.
@@ -87,10 +87,10 @@ module _ {F : Type 0} (failures : F → ℕ) (may_leave : F → Tearing) (allowe
     pub later : List Call
     pub during : calls ≡ log at ++ later
     pub trees : Trees
-    pub inputs : AreInputsRead failures may_leave allowed since at task trees
+    pub inputs : AreInputsRead device since at task trees
     pub named : map (λ tree. tree.0) trees ≡ given_files task.files
     pub observed : List OutputFiles
-    pub outputs : AreOutputsRead failures may_leave allowed since at task observed
+    pub outputs : AreOutputsRead device since at task observed
     pub formed : map (λ output. (output.name, output.form)) observed ≡ given_outputs task.outputs
     pub made : AreMadeOf kinds task trees observed
 
@@ -99,8 +99,8 @@ module _ {F : Type 0} (failures : F → ℕ) (may_leave : F → Tearing) (allowe
   IsCurrentRight calls planned report =
       report.outcome ≡ outcomes.UpToDate → is_empty planned.task.actions ≡ false → HadRight calls planned.task
 
-module _ {F M N Z S A : Type 0} (failures : F → ℕ) (may_leave : F → Tearing)
-    (allowed : F → Call → F → Type 0) (log : F → List Call) (tables : Tables M N Z S A) (kinds : Kinds) where
+module _ {F M N Z S A : Type 0} (device : Device F) (log : F → List Call) (tables : Tables M N Z S A)
+    (kinds : Kinds) where
   -- A build on a folder that keeps its calls, and has kept none before it. Its process may have been stopped:
   -- then only the first ones of its calls were made.
   pub record BuildWithLog : Type 0 where
@@ -109,7 +109,7 @@ module _ {F M N Z S A : Type 0} (failures : F → ℕ) (may_leave : F → Tearin
     pub old : F
     pub new : F
     pub begins : log old ≡ []
-    pub requests : InvocationRequests failures may_leave allowed tables invocation answer old new
+    pub requests : InvocationRequests device tables invocation answer old new
     -- The calls that were made before its process was stopped, and the others, which it would have made. A
     -- build counts as ended if there are no others. A call during which it was stopped may be taken as made,
     -- with any answer.
@@ -125,19 +125,19 @@ module _ {F M N Z S A : Type 0} (failures : F → ℕ) (may_leave : F → Tearin
 
   -- this holds for each task of the plan
   abbrev pub AreCurrentRight : (invocation : Invocation) (answer : Result Report Fault) (old new : F)
-      → InvocationRequests failures may_leave allowed tables invocation answer old new → Type 0
+      → InvocationRequests device tables invocation answer old new → Type 0
   AreCurrentRight invocation (Err fault) old new requests = ⊤
   AreCurrentRight invocation (Ok report) old new builds =
-      AllZip (IsCurrentRight failures may_leave allowed log kinds (log new)) builds.by.plan report.tasks
+      AllZip (IsCurrentRight device log kinds (log new)) builds.by.plan report.tasks
 
   -- In contents that answer its calls, a build in which no task failed left what is made from scratch on the
   -- first ones, if no two contents there or of any of the calls share a digest.
   abbrev pub LeftFromScratch : List Bytes → BuildWithLog → Type 0
   LeftFromScratch all build =
       (report : Report) → build.answer ≡ Ok report → has_failure report ≡ false → (start end : Contents)
-      → AnswersSoundly (may_leave build.old) start (log build.new) end
+      → AnswersSoundly (device.may_leave build.old) start (log build.new) end
       → AreCollisionFree sha256 (all ++ contents_outside start ++ contents_outside end)
-      → IsFromScratch (setting_of tables kinds (may_leave build.old)) start build.invocation report end
+      → IsFromScratch (setting_of tables kinds (device.may_leave build.old)) start build.invocation report end
 
   -- The records that the build was to store are true. If it ended, what it reported as up to date was right,
   -- and what it left is from scratch.
@@ -151,13 +151,13 @@ module _ {F M N Z S A : Type 0} (failures : F → ℕ) (may_leave : F → Tearin
 -- the process of one was stopped or not. The calls are those that were made. If each record that a build read
 -- is one that an earlier one was to store, and no two contents that calls returned or were to write share a
 -- digest, each build is truthful. No record is assumed to be true.
-abbrev pub RecordsStayTrue : {F M N Z S A : Type 0} → (F → ℕ) → (F → Tearing) → (F → Call → F → Type 0)
+abbrev pub RecordsStayTrue : {F M N Z S A : Type 0} → Device F
     → Tables M N Z S A → Type 0
-RecordsStayTrue {F = F} failures may_leave allowed tables =
-    (log : F → List Call) → LogsCalls allowed log
+RecordsStayTrue {F = F} device tables =
+    (log : F → List Call) → LogsCalls device.allowed log
     → (kinds : Kinds) → Agrees tables.shapes tables.kinds kinds
-    → (builds : List (BuildWithLog failures may_leave allowed log tables kinds))
+    → (builds : List (BuildWithLog device log tables kinds))
     → let kept = map (λ build. build.made) builds in
     let all = flat_map (λ calls. flat_map content_of calls) kept in
     AreCollisionFree sha256 all → EachReadsOnly [] kept
-    → AllByRecursion (IsTruthful failures may_leave allowed log tables kinds all) builds
+    → AllByRecursion (IsTruthful device log tables kinds all) builds

@@ -13,7 +13,7 @@ use gb_registry::tables::Tables;
 /// contents. The premises: kinds agree, no call was kept before, the records that these contents
 /// hold are true, and no two contents share a digest.
 pub fn answered_success_is_from_scratch<A: Actions, T: Transforms, F: Folder>(tables: &Tables<A, T>)
-    ensures { AnsweredSuccessIsFromScratch F.failures F.may_leave F.allowed
+    ensures { AnsweredSuccessIsFromScratch F.device
         (tables_of T.meanings A.meanings tables.now) }
 {}
 
@@ -26,6 +26,6 @@ pub fn answered_success_is_from_scratch<A: Actions, T: Transforms, F: Folder>(ta
 /// actions as up to date, the files that calls had returned of its outputs are what its actions make
 /// of those of its inputs. All builds have the same tables.
 pub fn records_stay_true<A: Actions, T: Transforms, F: Folder>(tables: &Tables<A, T>)
-    ensures { RecordsStayTrue F.failures F.may_leave F.allowed
+    ensures { RecordsStayTrue F.device
         (tables_of T.meanings A.meanings tables.now) }
 {}

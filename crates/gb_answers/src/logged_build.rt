@@ -43,15 +43,15 @@ pub fn invoke_logged<A: Actions, T: Transforms, F: Folder + Drop, L: TaskListene
     // records. If kinds agree, no two contents share a digest and no task failed, the calls leave
     // in them, outside `.gb`, what a build of the unskipped tasks from scratch makes.
     ensures from_scratch { IfOk result.answer (λ report.
-        LeavesFromScratch (tables_of T.meanings A.meanings tables.now) (F.may_leave inner) invocation.now
+        LeavesFromScratch (tables_of T.meanings A.meanings tables.now) (F.device.may_leave inner)
+        invocation.now
         report (log result.folder)) }
     // It is a build that the law `records_stay_true` is about, one that ended. By that law such
     // builds, one after another, with the same tables and kinds that agree, are truthful if each
     // record that one of them read is one that an earlier one was to store, and no two contents
     // share a digest.
-    ensures logged { (kinds : Kinds) → WasLogged ⟦<LoggedFolder<F> as Folder>⟧.failures
-        ⟦<LoggedFolder<F> as Folder>⟧.may_leave ⟦<LoggedFolder<F> as Folder>⟧.allowed log
-        (tables_of T.meanings A.meanings tables.now) kinds invocation.now result.answer result.folder }
+    ensures logged { (kinds : Kinds) → WasLogged ⟦<LoggedFolder<F> as Folder>⟧.device
+        log (tables_of T.meanings A.meanings tables.now) kinds invocation.now result.answer result.folder }
 {
     let mut folder = LoggedFolder::new(alloc, inner);
     let answer = invoke(alloc, &mut folder, tables, invocation, listeners, printer);

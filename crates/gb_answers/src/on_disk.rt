@@ -8,5 +8,5 @@ use std::fs::Files;
 
 /// A folder on a disk keeps its calls (`calls_of`). So the laws hold of builds there.
 pub fn disk_folders_keep_calls<R: Files + Drop>()
-    ensures { LogsCalls ⟦<DiskFolder<R> as Folder>⟧.allowed calls_of }
+    ensures { LogsCalls ⟦<DiskFolder<R> as Folder>⟧.device.allowed calls_of }
 {}

@@ -4,8 +4,8 @@ use Rattle.std.specs.Prelude.{◌⊎◌, string_bytes}
 use Rattle.std.specs.Global.{Global}
 use Rattle.std.specs.declared.string.String.{String}
 use Rattle.gb_core.specs.Place.{is_place}
-use Rattle.gb_folder.specs.Calls.{Call, Reads, Writes}
-use Rattle.gb_folder.specs.Device.{Device, IsCalled, Leads}
+use Rattle.gb_folder.specs.Calls.{Call, Reads, Writes, Device}
+use Rattle.gb_folder.specs.Device.{IsCalled, Leads}
 use Rattle.gb_folder.specs.Each.{Each, Ended}
 use Rattle.gb_folder.specs.Files.{is_empty}
 use Rattle.gb_folder.specs.Semantics.{Answer}

@@ -4,7 +4,7 @@ ghost use Rattle.std.specs.Prelude.{List, None, map, string_bytes};
 ghost use Rattle.std.specs.Io.KnownBytes.{Appends};
 ghost use Rattle.gb_command.specs.Answered.{given_of};
 ghost use Rattle.gb_declare.specs.Registered.{registry_said};
-ghost use Rattle.gb_folder.specs.Calls.{Requests, no_change};
+ghost use Rattle.gb_folder.specs.Calls.{OnlyReads};
 ghost use Rattle.gb_folder.specs.Files.{is_empty};
 ghost use Rattle.gb_plan.specs.Graph.{paths_of};
 ghost use Rattle.gb_printer.specs.Printing.{Prints};
@@ -66,13 +66,11 @@ pub fn run<A: Actions, T: Transforms, F: Folder, W: Printer>(
     tables: &Tables<A, T>,
 ) -> Option<u8>
     // Over any folder: no change is requested.
-    ensures requests { Requests F.failures F.may_leave F.allowed no_change folder.old folder.new }
-    ensures back { F.faithful folder.new → F.faithful folder.old }
-    ensures same { F.faithful folder.new → F.contents folder.new ≡ F.contents folder.old }
+    ensures reads { OnlyReads F.device folder.old folder.new }
     ensures reported { (reply : CheckReply)
-        × RepliesCheck (tables_of T.meanings A.meanings tables.now) (F.faithful folder.new)
-        (given_of (λ words. map string_bytes words.items) words) (F.contents folder.old)
-        (F.failures folder.old) (F.failures folder.new) reply
+        × RepliesCheck (tables_of T.meanings A.meanings tables.now) (F.device.faithful folder.new)
+        (given_of (λ words. map string_bytes words.items) words) (F.device.contents folder.old)
+        (F.device.failures folder.old) (F.device.failures folder.new) reply
         × (written : Replied) × IsCheckWritten notation reply written
         × Prints W.contents W.whole (reply_text written) writer.old writer.new
         × IfSome result (λ status.
@@ -186,12 +184,10 @@ fn replied<A: Actions, T: Transforms, F: Folder>(
     words: Result<Vec<String>, Fault>,
     tables: &Tables<A, T>,
 ) -> Result<Findings, Fault>
-    ensures requests { Requests F.failures F.may_leave F.allowed no_change folder.old folder.new }
-    ensures back { F.faithful folder.new → F.faithful folder.old }
-    ensures same { F.faithful folder.new → F.contents folder.new ≡ F.contents folder.old }
-    ensures replies { RepliesCheck (tables_of T.meanings A.meanings tables.now) (F.faithful folder.new)
-        (given_of (λ words. map string_bytes words.items) words) (F.contents folder.old)
-        (F.failures folder.old) (F.failures folder.new) result }
+    ensures reads { OnlyReads F.device folder.old folder.new }
+    ensures replies { RepliesCheck (tables_of T.meanings A.meanings tables.now) (F.device.faithful folder.new)
+        (given_of (λ words. map string_bytes words.items) words) (F.device.contents folder.old)
+        (F.device.failures folder.old) (F.device.failures folder.new) result }
 {
     match asked_by(alloc, words) {
         Ok(invocation) => check_asked(alloc, folder, tables, &invocation),
@@ -206,11 +202,10 @@ fn check_asked<A: Actions, T: Transforms, F: Folder>(
     tables: &Tables<A, T>,
     invocation: &Invocation,
 ) -> Result<Findings, Fault>
-    ensures requests { Requests F.failures F.may_leave F.allowed no_change folder.old folder.new }
-    ensures back { F.faithful folder.new → F.faithful folder.old }
-    ensures same { F.faithful folder.new → F.contents folder.new ≡ F.contents folder.old }
-    ensures reply { IsCheckReply (tables_of T.meanings A.meanings tables.now) (F.faithful folder.new)
-        invocation.now (F.contents folder.old) (F.failures folder.old) (F.failures folder.new) result }
+    ensures reads { OnlyReads F.device folder.old folder.new }
+    ensures reply { IsCheckReply (tables_of T.meanings A.meanings tables.now) (F.device.faithful folder.new)
+        invocation.now (F.device.contents folder.old) (F.device.failures folder.old)
+        (F.device.failures folder.new) result }
 {
     let copied = invocation.properties.copy(alloc)?;
     let given = copied.into_vec();
@@ -233,16 +228,14 @@ fn check_statements<A: Actions, T: Transforms, F: Folder>(
     tables: &Tables<A, T>,
     fault: Fault,
 ) -> Result<Findings, Fault>
-    ensures requests { Requests F.failures F.may_leave F.allowed no_change folder.old folder.new }
-    ensures back { F.faithful folder.new → F.faithful folder.old }
-    ensures same { F.faithful folder.new → F.contents folder.new ≡ F.contents folder.old }
+    ensures reads { OnlyReads F.device folder.old folder.new }
     ensures found { IfOk result (IsFoundAt (tables_of T.meanings A.meanings tables.now)
-        (F.faithful folder.new) (F.contents folder.old).files) }
-    ensures err { F.faithful folder.new → IfErr result (λ other.
-        IsOfMachine (F.failures folder.old) (F.failures folder.new) other
-        ⊎ (IsTextFault (F.contents folder.old).files other
+        (F.device.faithful folder.new) (F.device.contents folder.old).files) }
+    ensures err { F.device.faithful folder.new → IfErr result (λ other.
+        IsOfMachine (F.device.failures folder.old) (F.device.failures folder.new) other
+        ⊎ (IsTextFault (F.device.contents folder.old).files other
         ⊎ ((other ≡ fault) × IsFaultless (tables_of T.meanings A.meanings tables.now)
-        (F.contents folder.old).files))) }
+        (F.device.contents folder.old).files))) }
 {
     match statement_found(alloc, folder, tables) {
         Ok(Some(found)) => {
@@ -263,17 +256,15 @@ fn statement_found<A: Actions, T: Transforms, F: Folder>(
     folder: &mut F,
     tables: &Tables<A, T>,
 ) -> Result<Option<Findings>, Fault>
-    ensures requests { Requests F.failures F.may_leave F.allowed no_change folder.old folder.new }
-    ensures back { F.faithful folder.new → F.faithful folder.old }
-    ensures same { F.faithful folder.new → F.contents folder.new ≡ F.contents folder.old }
+    ensures reads { OnlyReads F.device folder.old folder.new }
     ensures found { IfOk result (λ found. IfSome found
-        (IsFoundAt (tables_of T.meanings A.meanings tables.now) (F.faithful folder.new)
-        (F.contents folder.old).files)) }
-    ensures none { F.faithful folder.new → IfOk result (λ found. found ≡ None
-        → IsFaultless (tables_of T.meanings A.meanings tables.now) (F.contents folder.old).files) }
-    ensures err { F.faithful folder.new → IfErr result (λ fault.
-        IsOfMachine (F.failures folder.old) (F.failures folder.new) fault
-        ⊎ IsTextFault (F.contents folder.old).files fault) }
+        (IsFoundAt (tables_of T.meanings A.meanings tables.now) (F.device.faithful folder.new)
+        (F.device.contents folder.old).files)) }
+    ensures none { F.device.faithful folder.new → IfOk result (λ found. found ≡ None
+        → IsFaultless (tables_of T.meanings A.meanings tables.now) (F.device.contents folder.old).files) }
+    ensures err { F.device.faithful folder.new → IfErr result (λ fault.
+        IsOfMachine (F.device.failures folder.old) (F.device.failures folder.new) fault
+        ⊎ IsTextFault (F.device.contents folder.old).files fault) }
 {
     match read_fault(alloc, folder, tables)? {
         Some(at) => Ok(Some(found_at(alloc, folder, at)?)),
@@ -283,13 +274,12 @@ fn statement_found<A: Actions, T: Transforms, F: Folder>(
 
 /// The finding of a fault at its statement, as the only one.
 fn found_at<F: Folder>(alloc: Global, folder: &mut F, at: FaultAt) -> Result<Findings, Fault>
-    ensures requests { Requests F.failures F.may_leave F.allowed no_change folder.old folder.new }
-    ensures back { F.faithful folder.new → F.faithful folder.old }
-    ensures same { F.faithful folder.new → F.contents folder.new ≡ F.contents folder.old }
-    ensures found { IfOk result (IsFindingAt (F.faithful folder.new) (F.contents folder.old).files at) }
-    ensures err { F.faithful folder.new → IfErr result (λ fault.
-        IsOfMachine (F.failures folder.old) (F.failures folder.new) fault
-        ⊎ HasTextFault (F.contents folder.old).files (script_of_project at.project) fault) }
+    ensures reads { OnlyReads F.device folder.old folder.new }
+    ensures found { IfOk result (IsFindingAt (F.device.faithful folder.new)
+        (F.device.contents folder.old).files at) }
+    ensures err { F.device.faithful folder.new → IfErr result (λ fault.
+        IsOfMachine (F.device.failures folder.old) (F.device.failures folder.new) fault
+        ⊎ HasTextFault (F.device.contents folder.old).files (script_of_project at.project) fault) }
 {
     let FaultAt {
         project,
@@ -324,16 +314,15 @@ fn check_configured<A: Actions, T: Transforms, F: Folder>(
     folder: &mut F,
     configured: &Configured<'_, A, T>,
 ) -> Result<Findings, Fault>
-    ensures requests { Requests F.failures F.may_leave F.allowed no_change folder.old folder.new }
-    ensures back { F.faithful folder.new → F.faithful folder.old }
-    ensures same { F.faithful folder.new → F.contents folder.new ≡ F.contents folder.old }
+    ensures reads { OnlyReads F.device folder.old folder.new }
     ensures found { IfOk result
-        (AreFindingsOf (tables_of T.meanings A.meanings configured.now.tables.now) (F.faithful folder.new)
-        configured.now.registry (F.contents folder.old)) }
-    ensures err { F.faithful folder.new → IfErr result (λ fault.
-        IsOfMachine (F.failures folder.old) (F.failures folder.new) fault
+        (AreFindingsOf (tables_of T.meanings A.meanings configured.now.tables.now)
+        (F.device.faithful folder.new)
+        configured.now.registry (F.device.contents folder.old)) }
+    ensures err { F.device.faithful folder.new → IfErr result (λ fault.
+        IsOfMachine (F.device.failures folder.old) (F.device.failures folder.new) fault
         ⊎ ((scripts : List (Path × List Statement)) × IsRead configured.now.registry scripts
-        × IsUnread (F.contents folder.old).files scripts fault)) }
+        × IsUnread (F.device.contents folder.old).files scripts fault)) }
 {
     let registry = &configured.registry;
     let scripts = registry.scripts();
@@ -369,14 +358,12 @@ fn warn_unregistered<A: Actions, T: Transforms, F: Folder>(
     folder: &mut F,
     configured: &Configured<'_, A, T>,
 ) -> Result<Vec<Finding>, Fault>
-    ensures requests { Requests F.failures F.may_leave F.allowed no_change folder.old folder.new }
-    ensures back { F.faithful folder.new → F.faithful folder.old }
-    ensures same { F.faithful folder.new → F.contents folder.new ≡ F.contents folder.old }
+    ensures reads { OnlyReads F.device folder.old folder.new }
     ensures found { let tables = tables_of T.meanings A.meanings configured.now.tables.now in
-        IfOk result (λ found. AreLeft (F.faithful folder.new) (F.contents folder.old)
+        IfOk result (λ found. AreLeft (F.device.faithful folder.new) (F.device.contents folder.old)
         (paths_of (registry_said tables configured.now.registry)) found.items) }
-    ensures err { F.faithful folder.new
-        → IfErr result (IsOfMachine (F.failures folder.old) (F.failures folder.new)) }
+    ensures err { F.device.faithful folder.new
+        → IfErr result (IsOfMachine (F.device.failures folder.old) (F.device.failures folder.new)) }
 {
     let _registered = configured.registry.tasks();
     let names = configured.registry.names(alloc)?;
@@ -403,15 +390,14 @@ fn check_tasks<A: Actions, T: Transforms, F: Folder>(
     configured: &Configured<'_, A, T>,
     scripts: &[Scripted],
 ) -> Result<Findings, Fault>
-    ensures requests { Requests F.failures F.may_leave F.allowed no_change folder.old folder.new }
-    ensures back { F.faithful folder.new → F.faithful folder.old }
-    ensures same { F.faithful folder.new → F.contents folder.new ≡ F.contents folder.old }
+    ensures reads { OnlyReads F.device folder.old folder.new }
     ensures found { let tables = tables_of T.meanings A.meanings configured.now.tables.now in
-        IfOk result (AreFindings tables configured.now.registry.names (F.faithful folder.new)
-        (F.contents folder.old) (registry_said tables configured.now.registry) (scripts_in scripts.now)) }
-    ensures err { F.faithful folder.new → IfErr result (λ fault.
-        IsOfMachine (F.failures folder.old) (F.failures folder.new) fault
-        ⊎ IsUnread (F.contents folder.old).files (scripts_in scripts.now) fault) }
+        IfOk result (AreFindings tables configured.now.registry.names (F.device.faithful folder.new)
+        (F.device.contents folder.old) (registry_said tables configured.now.registry)
+        (scripts_in scripts.now)) }
+    ensures err { F.device.faithful folder.new → IfErr result (λ fault.
+        IsOfMachine (F.device.failures folder.old) (F.device.failures folder.new) fault
+        ⊎ IsUnread (F.device.contents folder.old).files (scripts_in scripts.now) fault) }
 {
     let registry = &configured.registry;
     let known = Names {

@@ -1,6 +1,6 @@
 //! The statement of a folder's scripts at which their first fault arises.
 ghost use Rattle.std.specs.Prelude.{◌⊎◌, ◌≡◌, IfErr, IfOk, MatchOption};
-ghost use Rattle.gb_folder.specs.Calls.{Requests, no_change};
+ghost use Rattle.gb_folder.specs.Calls.{OnlyReads};
 ghost use Rattle.gb_registry.specs.Tables.{tables_of};
 ghost use Rattle.gb_store.specs.Faults.{IsOfMachine};
 ghost use Rattle.gb_ask_command.specs.Faulty.{IsFaultless, IsFaulty, IsTextFault};
@@ -23,16 +23,14 @@ pub fn read_fault<A: Actions, T: Transforms, F: Folder>(
     folder: &mut F,
     tables: &Tables<A, T>,
 ) -> Result<Option<FaultAt>, Fault>
-    ensures requests { Requests F.failures F.may_leave F.allowed no_change folder.old folder.new }
-    ensures back { F.faithful folder.new → F.faithful folder.old }
-    ensures same { F.faithful folder.new → F.contents folder.new ≡ F.contents folder.old }
+    ensures reads { OnlyReads F.device folder.old folder.new }
     ensures found { let tables = tables_of T.meanings A.meanings tables.now in
-        F.faithful folder.new → IfOk result (λ found.
-        MatchOption found (IsFaultless tables (F.contents folder.old).files)
-        (IsFaulty tables (F.contents folder.old).files)) }
-    ensures err { F.faithful folder.new → IfErr result (λ fault.
-        IsOfMachine (F.failures folder.old) (F.failures folder.new) fault
-        ⊎ IsTextFault (F.contents folder.old).files fault) }
+        F.device.faithful folder.new → IfOk result (λ found.
+        MatchOption found (IsFaultless tables (F.device.contents folder.old).files)
+        (IsFaulty tables (F.device.contents folder.old).files)) }
+    ensures err { F.device.faithful folder.new → IfErr result (λ fault.
+        IsOfMachine (F.device.failures folder.old) (F.device.failures folder.new) fault
+        ⊎ IsTextFault (F.device.contents folder.old).files fault) }
 {
     let settings = read_settings_of(alloc, folder)?;
     let projects = projects(alloc, &settings)?;

@@ -45,9 +45,8 @@ pub fn run<F: Folder, W: Printer>(
     writer: &mut W,
 ) -> Option<u8>
     // The only requested changes write formatted texts at these places, if they are to be written.
-    ensures requests { Requests F.failures F.may_leave F.allowed (may_write mode (map string_bytes names.now))
+    ensures requests { Requests F.device (may_write mode (map string_bytes names.now))
         folder.old folder.new }
-    ensures back { F.faithful folder.new → F.faithful folder.old }
     // Over any folder: these calls led from the old folder to the new one. With them the files were
     // processed in their order, up to the first fault; the output for them is printed, and then the
     // fault.

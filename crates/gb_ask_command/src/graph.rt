@@ -3,7 +3,7 @@ ghost use Rattle.std.specs.Prelude.{◌≡◌, IfErr, IfOk, IfSome, map, string_
 ghost use Rattle.std.specs.Io.KnownBytes.{Appends};
 ghost use Rattle.gb_command.specs.Answered.{given_of};
 ghost use Rattle.gb_declare.specs.Registered.{registry_said};
-ghost use Rattle.gb_folder.specs.Calls.{Requests, no_change};
+ghost use Rattle.gb_folder.specs.Calls.{OnlyReads};
 ghost use Rattle.gb_graph.specs.Answer.{IsRefusalOf};
 ghost use Rattle.gb_printer.specs.Printing.{Prints};
 ghost use Rattle.gb_registry.specs.Tables.{tables_of};
@@ -45,13 +45,11 @@ pub fn run<A: Actions, T: Transforms, F: Folder, W: Printer>(
     tables: &Tables<A, T>,
 ) -> Option<u8>
     // Over any folder: no change is requested.
-    ensures requests { Requests F.failures F.may_leave F.allowed no_change folder.old folder.new }
-    ensures back { F.faithful folder.new → F.faithful folder.old }
-    ensures same { F.faithful folder.new → F.contents folder.new ≡ F.contents folder.old }
+    ensures reads { OnlyReads F.device folder.old folder.new }
     ensures reported { (reply : Replied)
-        × Replies (IsGraphAnswer (tables_of T.meanings A.meanings tables.now) (F.faithful folder.new)
-        (record { contents = F.contents folder.old; failures = F.failures folder.old })
-        (F.failures folder.new) style colouring)
+        × Replies (IsGraphAnswer (tables_of T.meanings A.meanings tables.now) (F.device.faithful folder.new)
+        (record { contents = F.device.contents folder.old; failures = F.device.failures folder.old })
+        (F.device.failures folder.new) style colouring)
         (given_of (λ words. map string_bytes words.items) words) reply
         × Prints W.contents W.whole (reply_text reply) writer.old writer.new
         × IfSome result (λ status.
@@ -72,13 +70,11 @@ fn replied<A: Actions, T: Transforms, F: Folder>(
     words: Result<Vec<String>, Fault>,
     tables: &Tables<A, T>,
 ) -> Reply
-    ensures requests { Requests F.failures F.may_leave F.allowed no_change folder.old folder.new }
-    ensures back { F.faithful folder.new → F.faithful folder.old }
-    ensures same { F.faithful folder.new → F.contents folder.new ≡ F.contents folder.old }
+    ensures reads { OnlyReads F.device folder.old folder.new }
     ensures replies { Replies (IsGraphAnswer (tables_of T.meanings A.meanings tables.now)
-        (F.faithful folder.new)
-        (record { contents = F.contents folder.old; failures = F.failures folder.old })
-        (F.failures folder.new) style colouring)
+        (F.device.faithful folder.new)
+        (record { contents = F.device.contents folder.old; failures = F.device.failures folder.old })
+        (F.device.failures folder.new) style colouring)
         (given_of (λ words. map string_bytes words.items) words) result }
 {
     match asked_by(alloc, words) {
@@ -96,12 +92,10 @@ fn draw_coloured<A: Actions, T: Transforms, F: Folder>(
     tables: &Tables<A, T>,
     invocation: &Invocation,
 ) -> Reply
-    ensures requests { Requests F.failures F.may_leave F.allowed no_change folder.old folder.new }
-    ensures back { F.faithful folder.new → F.faithful folder.old }
-    ensures same { F.faithful folder.new → F.contents folder.new ≡ F.contents folder.old }
-    ensures reply { IsGraphAnswer (tables_of T.meanings A.meanings tables.now) (F.faithful folder.new)
-        (record { contents = F.contents folder.old; failures = F.failures folder.old })
-        (F.failures folder.new) style colouring invocation.now result }
+    ensures reads { OnlyReads F.device folder.old folder.new }
+    ensures reply { IsGraphAnswer (tables_of T.meanings A.meanings tables.now) (F.device.faithful folder.new)
+        (record { contents = F.device.contents folder.old; failures = F.device.failures folder.old })
+        (F.device.failures folder.new) style colouring invocation.now result }
 {
     let predicted = predicted(alloc, folder, colouring, tables, invocation);
     draw(
@@ -123,12 +117,11 @@ fn predicted<A: Actions, T: Transforms, F: Folder>(
     tables: &Tables<A, T>,
     invocation: &Invocation,
 ) -> Vec<Prediction>
-    ensures requests { Requests F.failures F.may_leave F.allowed no_change folder.old folder.new }
-    ensures back { F.faithful folder.new → F.faithful folder.old }
-    ensures same { F.faithful folder.new → F.contents folder.new ≡ F.contents folder.old }
-    ensures predicted { ArePredicted (tables_of T.meanings A.meanings tables.now) (F.faithful folder.new)
-        (record { contents = F.contents folder.old; failures = F.failures folder.old })
-        (F.failures folder.new) colouring invocation.now result.items }
+    ensures reads { OnlyReads F.device folder.old folder.new }
+    ensures predicted { ArePredicted (tables_of T.meanings A.meanings tables.now)
+        (F.device.faithful folder.new)
+        (record { contents = F.device.contents folder.old; failures = F.device.failures folder.old })
+        (F.device.failures folder.new) colouring invocation.now result.items }
 {
     match colouring {
         Colouring::Plain => Vec::new(alloc),
@@ -161,12 +154,10 @@ fn draw<A: Actions, T: Transforms, F: Folder>(
     tables: &Tables<A, T>,
     invocation: &Invocation,
 ) -> Reply
-    ensures requests { Requests F.failures F.may_leave F.allowed no_change folder.old folder.new }
-    ensures back { F.faithful folder.new → F.faithful folder.old }
-    ensures same { F.faithful folder.new → F.contents folder.new ≡ F.contents folder.old }
-    ensures reply { IsGraphReply (tables_of T.meanings A.meanings tables.now) (F.faithful folder.new)
-        (record { contents = F.contents folder.old; failures = F.failures folder.old })
-        (F.failures folder.new) style predicted.now invocation.now result }
+    ensures reads { OnlyReads F.device folder.old folder.new }
+    ensures reply { IsGraphReply (tables_of T.meanings A.meanings tables.now) (F.device.faithful folder.new)
+        (record { contents = F.device.contents folder.old; failures = F.device.failures folder.old })
+        (F.device.failures folder.new) style predicted.now invocation.now result }
 {
     match read_asked(alloc, folder, tables, invocation) {
         Ok(configured) => draw_registered(alloc, style, predicted, &configured, invocation),

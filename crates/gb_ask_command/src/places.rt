@@ -3,7 +3,7 @@ ghost use Rattle.std.specs.Prelude.{◌≡◌, IfErr, IfOk, IfSome, Ok, map, str
 ghost use Rattle.std.specs.Io.KnownBytes.{Appends};
 ghost use Rattle.gb_command.specs.Answered.{given_of};
 ghost use Rattle.gb_declare.specs.Registered.{registry_said};
-ghost use Rattle.gb_folder.specs.Calls.{Requests, no_change};
+ghost use Rattle.gb_folder.specs.Calls.{OnlyReads};
 ghost use Rattle.gb_printer.specs.Printing.{Prints};
 ghost use Rattle.gb_query.specs.Notation.{IsFoundText};
 ghost use Rattle.gb_query.specs.Search.{found_in};
@@ -45,13 +45,11 @@ pub fn run<A: Actions, T: Transforms, F: Folder, W: Printer>(
     tables: &Tables<A, T>,
 ) -> Option<u8>
     // Over any folder: no change is requested.
-    ensures requests { Requests F.failures F.may_leave F.allowed no_change folder.old folder.new }
-    ensures back { F.faithful folder.new → F.faithful folder.old }
-    ensures same { F.faithful folder.new → F.contents folder.new ≡ F.contents folder.old }
+    ensures reads { OnlyReads F.device folder.old folder.new }
     ensures reported { (reply : Replied)
-        × Replies (IsPlaceReply (tables_of T.meanings A.meanings tables.now) (F.faithful folder.new)
-        (record { contents = F.contents folder.old; failures = F.failures folder.old })
-        (F.failures folder.new) notation relation)
+        × Replies (IsPlaceReply (tables_of T.meanings A.meanings tables.now) (F.device.faithful folder.new)
+        (record { contents = F.device.contents folder.old; failures = F.device.failures folder.old })
+        (F.device.failures folder.new) notation relation)
         (given_of (λ words. map string_bytes words.items) words) reply
         × Prints W.contents W.whole (reply_text reply) writer.old writer.new
         × IfSome result (λ status.
@@ -72,13 +70,11 @@ fn replied<A: Actions, T: Transforms, F: Folder>(
     words: Result<Vec<String>, Fault>,
     tables: &Tables<A, T>,
 ) -> Reply
-    ensures requests { Requests F.failures F.may_leave F.allowed no_change folder.old folder.new }
-    ensures back { F.faithful folder.new → F.faithful folder.old }
-    ensures same { F.faithful folder.new → F.contents folder.new ≡ F.contents folder.old }
+    ensures reads { OnlyReads F.device folder.old folder.new }
     ensures replies { Replies (IsPlaceReply (tables_of T.meanings A.meanings tables.now)
-        (F.faithful folder.new)
-        (record { contents = F.contents folder.old; failures = F.failures folder.old })
-        (F.failures folder.new) notation relation)
+        (F.device.faithful folder.new)
+        (record { contents = F.device.contents folder.old; failures = F.device.failures folder.old })
+        (F.device.failures folder.new) notation relation)
         (given_of (λ words. map string_bytes words.items) words) result }
 {
     match asked_by(alloc, words) {
@@ -96,12 +92,10 @@ fn answer<A: Actions, T: Transforms, F: Folder>(
     tables: &Tables<A, T>,
     invocation: &Invocation,
 ) -> Reply
-    ensures requests { Requests F.failures F.may_leave F.allowed no_change folder.old folder.new }
-    ensures back { F.faithful folder.new → F.faithful folder.old }
-    ensures same { F.faithful folder.new → F.contents folder.new ≡ F.contents folder.old }
-    ensures reply { IsPlaceReply (tables_of T.meanings A.meanings tables.now) (F.faithful folder.new)
-        (record { contents = F.contents folder.old; failures = F.failures folder.old })
-        (F.failures folder.new) notation relation invocation.now result }
+    ensures reads { OnlyReads F.device folder.old folder.new }
+    ensures reply { IsPlaceReply (tables_of T.meanings A.meanings tables.now) (F.device.faithful folder.new)
+        (record { contents = F.device.contents folder.old; failures = F.device.failures folder.old })
+        (F.device.failures folder.new) notation relation invocation.now result }
 {
     match asked_place(alloc, invocation.requested.as_slice()) {
         Ok(place) => search_folder(
@@ -121,12 +115,10 @@ fn search_folder<A: Actions, T: Transforms, F: Folder>(
     invocation: &Invocation,
     place: &Place,
 ) -> Reply
-    ensures requests { Requests F.failures F.may_leave F.allowed no_change folder.old folder.new }
-    ensures back { F.faithful folder.new → F.faithful folder.old }
-    ensures same { F.faithful folder.new → F.contents folder.new ≡ F.contents folder.old }
-    ensures reply { IsReplyAbout (tables_of T.meanings A.meanings tables.now) (F.faithful folder.new)
-        (record { contents = F.contents folder.old; failures = F.failures folder.old })
-        (F.failures folder.new) notation relation (Ok place.now) invocation.now result }
+    ensures reads { OnlyReads F.device folder.old folder.new }
+    ensures reply { IsReplyAbout (tables_of T.meanings A.meanings tables.now) (F.device.faithful folder.new)
+        (record { contents = F.device.contents folder.old; failures = F.device.failures folder.old })
+        (F.device.failures folder.new) notation relation (Ok place.now) invocation.now result }
 {
     match read_asked(alloc, folder, tables, invocation) {
         Ok(configured) => search_registered(alloc, notation, relation, &configured, place),

@@ -2,7 +2,7 @@
 ghost use Rattle.std.specs.Prelude.{◌≡◌, false, IfErr, IfOk};
 ghost use Rattle.std.specs.List.{AllByRecursion};
 ghost use Rattle.gb_task.specs.Buildable.{IsBuildable};
-ghost use Rattle.gb_folder.specs.Calls.{Requests, no_change};
+ghost use Rattle.gb_folder.specs.Calls.{OnlyReads};
 ghost use Rattle.gb_build.specs.Asking.{AreBuildable};
 ghost use Rattle.gb_build.specs.Refusing.{IsUnread};
 ghost use Rattle.gb_plan.specs.Graph.{IsRegistry, order};
@@ -39,12 +39,14 @@ pub(crate) fn predict_build<A: Actions, T: Transforms, F: Folder>(
     tables: &Tables<A, T>,
     invocation: &Invocation,
 ) -> Answer
-    ensures requests { Requests F.failures F.may_leave F.allowed no_change folder.old folder.new }
-    ensures back { F.faithful folder.new → F.faithful folder.old }
-    ensures same { F.faithful folder.new → F.contents folder.new ≡ F.contents folder.old }
-    ensures answer { IsAnswerTo (tables_of T.meanings A.meanings tables.now) (F.faithful folder.new)
-        invocation.now (record { contents = F.contents folder.old; failures = F.failures folder.old })
-        result (F.failures folder.new) }
+    ensures reads { OnlyReads F.device folder.old folder.new }
+    ensures answer { IsAnswerTo (tables_of T.meanings A.meanings tables.now) (F.device.faithful folder.new)
+        invocation.now (record {
+          contents = F.device.contents folder.old;
+          failures = F.device.failures
+              folder.old;
+        })
+        result (F.device.failures folder.new) }
 {
     let copied = invocation.properties.copy(alloc)?;
     let given = copied.into_vec();
@@ -61,20 +63,19 @@ fn predict_registered<A: Actions, T: Transforms, F: Folder>(
     configured: &Configured<'_, A, T>,
     invocation: &Invocation,
 ) -> Answer
-    ensures requests { Requests F.failures F.may_leave F.allowed no_change folder.old folder.new }
-    ensures back { F.faithful folder.new → F.faithful folder.old }
-    ensures same { F.faithful folder.new → F.contents folder.new ≡ F.contents folder.old }
+    ensures reads { OnlyReads F.device folder.old folder.new }
     ensures sound { let tables = tables_of T.meanings A.meanings configured.now.tables.now in
         IfOk result (λ _. IsRegistry (registry_said tables configured.now.registry)) }
     ensures reported { let tables = tables_of T.meanings A.meanings configured.now.tables.now in
-        IfOk result (λ reported. AreReportedOf (F.faithful folder.new) A.meanings
+        IfOk result (λ reported. AreReportedOf (F.device.faithful folder.new) A.meanings
         configured.now.tables.now.actions (registry_said tables configured.now.registry)
         invocation.now.requested invocation.now.excluded invocation.now.options
-        (record { contents = F.contents folder.old; failures = F.failures folder.old })
-        (F.failures folder.new) reported.items) }
+        (record { contents = F.device.contents folder.old; failures = F.device.failures folder.old })
+        (F.device.failures folder.new) reported.items) }
     ensures not_reported { let tables = tables_of T.meanings A.meanings configured.now.tables.now in
         IfErr result (IsNotReported (registry_said tables configured.now.registry)
-        invocation.now.requested invocation.now.excluded (F.failures folder.old) (F.failures folder.new)) }
+        invocation.now.requested invocation.now.excluded (F.device.failures folder.old)
+        (F.device.failures folder.new)) }
 {
     let _scripts = configured.registry.scripts();
     let mut tasks = ScriptTasks::declare(alloc, configured)?;
@@ -102,16 +103,15 @@ fn predict_requested<A: Actions, F: Folder, Ts: Tasks>(
     options: Options,
 ) -> Answer
     requires { AreBuildable A.meanings table.now (Ts.registry tasks.old) }
-    ensures requests { Requests F.failures F.may_leave F.allowed no_change folder.old folder.new }
-    ensures back { F.faithful folder.new → F.faithful folder.old }
-    ensures same { F.faithful folder.new → F.contents folder.new ≡ F.contents folder.old }
-    ensures reported { IfOk result (λ reported. AreReportedOf (F.faithful folder.new) A.meanings table.now
+    ensures reads { OnlyReads F.device folder.old folder.new }
+    ensures reported { IfOk result (λ reported. AreReportedOf (F.device.faithful folder.new) A.meanings
+        table.now
         (Ts.registry tasks.old)
         requested.now excluded.now options
-        (record { contents = F.contents folder.old; failures = F.failures folder.old })
-        (F.failures folder.new) reported.items) }
+        (record { contents = F.device.contents folder.old; failures = F.device.failures folder.old })
+        (F.device.failures folder.new) reported.items) }
     ensures not_reported { IfErr result (IsNotReported (Ts.registry tasks.old) requested.now excluded.now
-        (F.failures folder.old) (F.failures folder.new)) }
+        (F.device.failures folder.old) (F.device.failures folder.new)) }
 {
     let plan = plan(alloc, tasks, requested, excluded)?;
     predict_planned::<A, F>(alloc, folder, plan.as_slice(), table, options)
@@ -126,14 +126,13 @@ fn predict_planned<A: Actions, F: Folder>(
     options: Options,
 ) -> Answer
     requires { AllByRecursion (λ planned. IsBuildable A.meanings table.now planned.task) plan.now }
-    ensures requests { Requests F.failures F.may_leave F.allowed no_change folder.old folder.new }
-    ensures back { F.faithful folder.new → F.faithful folder.old }
-    ensures same { F.faithful folder.new → F.contents folder.new ≡ F.contents folder.old }
-    ensures reported { IfOk result (λ reported. AreReported (F.faithful folder.new) A.meanings table.now
-        options (record { contents = F.contents folder.old; failures = F.failures folder.old })
-        (F.failures folder.new) plan.now reported.items) }
+    ensures reads { OnlyReads F.device folder.old folder.new }
+    ensures reported { IfOk result (λ reported. AreReported (F.device.faithful folder.new) A.meanings
+        table.now
+        options (record { contents = F.device.contents folder.old; failures = F.device.failures folder.old })
+        (F.device.failures folder.new) plan.now reported.items) }
     ensures unread { IfErr result
-        (IsUnread false (F.failures folder.old) (F.failures folder.new)) }
+        (IsUnread false (F.device.failures folder.old) (F.device.failures folder.new)) }
 {
     let paths = paths_of(alloc, plan)?;
     let records = read_records(alloc, folder, paths.as_slice())?;

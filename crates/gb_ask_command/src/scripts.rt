@@ -1,6 +1,6 @@
 //! The scripts of a folder, read with the values that an invocation gives.
 ghost use Rattle.std.specs.Prelude.{◌≡◌, IfOk, Err, MatchResult, Ok};
-ghost use Rattle.gb_folder.specs.Calls.{Requests, no_change};
+ghost use Rattle.gb_folder.specs.Calls.{OnlyReads};
 ghost use Rattle.gb_registry.specs.Tables.{tables_of};
 ghost use Rattle.gb_ask_command.specs.Replies.{AreRead};
 
@@ -22,17 +22,15 @@ pub(crate) fn read_asked<'a, A: Actions, T: Transforms, F: Folder>(
     tables: &'a Tables<A, T>,
     invocation: &Invocation,
 ) -> Result<Configured<'a, A, T>, Fault>
-    ensures requests { Requests F.failures F.may_leave F.allowed no_change folder.old folder.new }
-    ensures back { F.faithful folder.new → F.faithful folder.old }
-    ensures same { F.faithful folder.new → F.contents folder.new ≡ F.contents folder.old }
+    ensures reads { OnlyReads F.device folder.old folder.new }
     ensures tables { IfOk result (λ configured. configured.tables.now ≡ tables.now) }
     ensures read { let handed = tables_of T.meanings A.meanings tables.now in MatchResult result
-        (λ configured. AreRead handed (F.faithful folder.new)
-        (record { contents = F.contents folder.old; failures = F.failures folder.old })
-        (F.failures folder.new) invocation.now (Ok configured.registry))
-        (λ fault. AreRead handed (F.faithful folder.new)
-        (record { contents = F.contents folder.old; failures = F.failures folder.old })
-        (F.failures folder.new) invocation.now (Err fault)) }
+        (λ configured. AreRead handed (F.device.faithful folder.new)
+        (record { contents = F.device.contents folder.old; failures = F.device.failures folder.old })
+        (F.device.failures folder.new) invocation.now (Ok configured.registry))
+        (λ fault. AreRead handed (F.device.faithful folder.new)
+        (record { contents = F.device.contents folder.old; failures = F.device.failures folder.old })
+        (F.device.failures folder.new) invocation.now (Err fault)) }
 {
     match invocation.properties.copy(alloc) {
         Ok(copied) => {

@@ -3,7 +3,7 @@ ghost use Rattle.std.specs.Prelude.{◌≡◌, IfErr, IfOk, IfSome, map, string_
 ghost use Rattle.std.specs.Io.KnownBytes.{Appends};
 ghost use Rattle.gb_command.specs.Answered.{given_of};
 ghost use Rattle.gb_declare.specs.Registered.{registry_said};
-ghost use Rattle.gb_folder.specs.Calls.{Requests, no_change};
+ghost use Rattle.gb_folder.specs.Calls.{OnlyReads};
 ghost use Rattle.gb_printer.specs.Printing.{Prints};
 ghost use Rattle.gb_plan.specs.Graph.{paths_of};
 ghost use Rattle.gb_query.specs.Inventory.{IsUnlisted};
@@ -42,13 +42,11 @@ pub fn run<A: Actions, T: Transforms, F: Folder, W: Printer>(
     tables: &Tables<A, T>,
 ) -> Option<u8>
     // Over any folder: no change is requested.
-    ensures requests { Requests F.failures F.may_leave F.allowed no_change folder.old folder.new }
-    ensures back { F.faithful folder.new → F.faithful folder.old }
-    ensures same { F.faithful folder.new → F.contents folder.new ≡ F.contents folder.old }
+    ensures reads { OnlyReads F.device folder.old folder.new }
     ensures reported { (reply : Replied)
-        × Replies (IsStatusReply (tables_of T.meanings A.meanings tables.now) (F.faithful folder.new)
-        (record { contents = F.contents folder.old; failures = F.failures folder.old })
-        (F.failures folder.new) notation activity)
+        × Replies (IsStatusReply (tables_of T.meanings A.meanings tables.now) (F.device.faithful folder.new)
+        (record { contents = F.device.contents folder.old; failures = F.device.failures folder.old })
+        (F.device.failures folder.new) notation activity)
         (given_of (λ words. map string_bytes words.items) words) reply
         × Prints W.contents W.whole (reply_text reply) writer.old writer.new
         × IfSome result (λ status.
@@ -69,13 +67,11 @@ fn replied<A: Actions, T: Transforms, F: Folder>(
     words: Result<Vec<String>, Fault>,
     tables: &Tables<A, T>,
 ) -> Reply
-    ensures requests { Requests F.failures F.may_leave F.allowed no_change folder.old folder.new }
-    ensures back { F.faithful folder.new → F.faithful folder.old }
-    ensures same { F.faithful folder.new → F.contents folder.new ≡ F.contents folder.old }
+    ensures reads { OnlyReads F.device folder.old folder.new }
     ensures replies { Replies (IsStatusReply (tables_of T.meanings A.meanings tables.now)
-        (F.faithful folder.new)
-        (record { contents = F.contents folder.old; failures = F.failures folder.old })
-        (F.failures folder.new) notation activity)
+        (F.device.faithful folder.new)
+        (record { contents = F.device.contents folder.old; failures = F.device.failures folder.old })
+        (F.device.failures folder.new) notation activity)
         (given_of (λ words. map string_bytes words.items) words) result }
 {
     match asked_by(alloc, words) {
@@ -94,12 +90,10 @@ fn look<A: Actions, T: Transforms, F: Folder>(
     tables: &Tables<A, T>,
     invocation: &Invocation,
 ) -> Reply
-    ensures requests { Requests F.failures F.may_leave F.allowed no_change folder.old folder.new }
-    ensures back { F.faithful folder.new → F.faithful folder.old }
-    ensures same { F.faithful folder.new → F.contents folder.new ≡ F.contents folder.old }
-    ensures reply { IsStatusReply (tables_of T.meanings A.meanings tables.now) (F.faithful folder.new)
-        (record { contents = F.contents folder.old; failures = F.failures folder.old })
-        (F.failures folder.new) notation activity invocation.now result }
+    ensures reads { OnlyReads F.device folder.old folder.new }
+    ensures reply { IsStatusReply (tables_of T.meanings A.meanings tables.now) (F.device.faithful folder.new)
+        (record { contents = F.device.contents folder.old; failures = F.device.failures folder.old })
+        (F.device.failures folder.new) notation activity invocation.now result }
 {
     match read_asked(alloc, folder, tables, invocation) {
         Ok(configured) => look_beside(alloc, folder, notation, activity, &configured),
@@ -115,15 +109,14 @@ fn look_beside<A: Actions, T: Transforms, F: Folder>(
     activity: Activity,
     configured: &Configured<'_, A, T>,
 ) -> Reply
-    ensures requests { Requests F.failures F.may_leave F.allowed no_change folder.old folder.new }
-    ensures back { F.faithful folder.new → F.faithful folder.old }
-    ensures same { F.faithful folder.new → F.contents folder.new ≡ F.contents folder.old }
+    ensures reads { OnlyReads F.device folder.old folder.new }
     ensures text { let tables = tables_of T.meanings A.meanings configured.now.tables.now in
-        IfOk result (λ text. IsStatusOf (F.faithful folder.new) notation activity
-        (F.contents folder.old).files (paths_of (registry_said tables configured.now.registry))
+        IfOk result (λ text. IsStatusOf (F.device.faithful folder.new) notation activity
+        (F.device.contents folder.old).files (paths_of (registry_said tables configured.now.registry))
         (string_bytes text)) }
-    ensures refused { F.faithful folder.new → IfErr result
-        (IsUnlisted (F.contents folder.old) (F.failures folder.old) (F.failures folder.new)) }
+    ensures refused { F.device.faithful folder.new → IfErr result
+        (IsUnlisted (F.device.contents folder.old) (F.device.failures folder.old)
+        (F.device.failures folder.new)) }
 {
     let _registered = configured.registry.tasks();
     let names = configured.registry.names(alloc)?;

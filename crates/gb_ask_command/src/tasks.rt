@@ -3,7 +3,7 @@ ghost use Rattle.std.specs.Prelude.{◌≡◌, IfErr, IfOk, IfSome, map, string_
 ghost use Rattle.std.specs.Io.KnownBytes.{Appends};
 ghost use Rattle.gb_command.specs.Answered.{given_of};
 ghost use Rattle.gb_declare.specs.Registered.{registry_said};
-ghost use Rattle.gb_folder.specs.Calls.{Requests, no_change};
+ghost use Rattle.gb_folder.specs.Calls.{OnlyReads};
 ghost use Rattle.gb_printer.specs.Printing.{Prints};
 ghost use Rattle.gb_query.specs.Notation.{IsTasksText};
 ghost use Rattle.gb_registry.specs.Tables.{tables_of};
@@ -39,13 +39,11 @@ pub fn run<A: Actions, T: Transforms, F: Folder, W: Printer>(
     tables: &Tables<A, T>,
 ) -> Option<u8>
     // Over any folder: no change is requested.
-    ensures requests { Requests F.failures F.may_leave F.allowed no_change folder.old folder.new }
-    ensures back { F.faithful folder.new → F.faithful folder.old }
-    ensures same { F.faithful folder.new → F.contents folder.new ≡ F.contents folder.old }
+    ensures reads { OnlyReads F.device folder.old folder.new }
     ensures reported { (reply : Replied)
-        × Replies (IsTasksReply (tables_of T.meanings A.meanings tables.now) (F.faithful folder.new)
-        (record { contents = F.contents folder.old; failures = F.failures folder.old })
-        (F.failures folder.new) notation)
+        × Replies (IsTasksReply (tables_of T.meanings A.meanings tables.now) (F.device.faithful folder.new)
+        (record { contents = F.device.contents folder.old; failures = F.device.failures folder.old })
+        (F.device.failures folder.new) notation)
         (given_of (λ words. map string_bytes words.items) words) reply
         × Prints W.contents W.whole (reply_text reply) writer.old writer.new
         × IfSome result (λ status.
@@ -65,13 +63,11 @@ fn replied<A: Actions, T: Transforms, F: Folder>(
     words: Result<Vec<String>, Fault>,
     tables: &Tables<A, T>,
 ) -> Reply
-    ensures requests { Requests F.failures F.may_leave F.allowed no_change folder.old folder.new }
-    ensures back { F.faithful folder.new → F.faithful folder.old }
-    ensures same { F.faithful folder.new → F.contents folder.new ≡ F.contents folder.old }
+    ensures reads { OnlyReads F.device folder.old folder.new }
     ensures replies { Replies (IsTasksReply (tables_of T.meanings A.meanings tables.now)
-        (F.faithful folder.new)
-        (record { contents = F.contents folder.old; failures = F.failures folder.old })
-        (F.failures folder.new) notation)
+        (F.device.faithful folder.new)
+        (record { contents = F.device.contents folder.old; failures = F.device.failures folder.old })
+        (F.device.failures folder.new) notation)
         (given_of (λ words. map string_bytes words.items) words) result }
 {
     match asked_by(alloc, words) {
@@ -88,12 +84,10 @@ fn list<A: Actions, T: Transforms, F: Folder>(
     tables: &Tables<A, T>,
     invocation: &Invocation,
 ) -> Reply
-    ensures requests { Requests F.failures F.may_leave F.allowed no_change folder.old folder.new }
-    ensures back { F.faithful folder.new → F.faithful folder.old }
-    ensures same { F.faithful folder.new → F.contents folder.new ≡ F.contents folder.old }
-    ensures reply { IsTasksReply (tables_of T.meanings A.meanings tables.now) (F.faithful folder.new)
-        (record { contents = F.contents folder.old; failures = F.failures folder.old })
-        (F.failures folder.new) notation invocation.now result }
+    ensures reads { OnlyReads F.device folder.old folder.new }
+    ensures reply { IsTasksReply (tables_of T.meanings A.meanings tables.now) (F.device.faithful folder.new)
+        (record { contents = F.device.contents folder.old; failures = F.device.failures folder.old })
+        (F.device.failures folder.new) notation invocation.now result }
 {
     match read_asked(alloc, folder, tables, invocation) {
         Ok(configured) => list_registered(alloc, notation, &configured),

@@ -2,7 +2,7 @@
 ghost use Rattle.std.specs.Prelude.{◌≡◌, IfSome, MatchResult, map, string_bytes};
 ghost use Rattle.std.specs.Io.KnownBytes.{Appends};
 ghost use Rattle.gb_command.specs.Answered.{AreRefused, AskFor, given_of};
-ghost use Rattle.gb_folder.specs.Calls.{Requests, no_change};
+ghost use Rattle.gb_folder.specs.Calls.{OnlyReads};
 ghost use Rattle.gb_printer.specs.Printing.{Prints};
 ghost use Rattle.gb_registry.specs.Tables.{tables_of};
 ghost use Rattle.gb_ask_command.specs.Reply.{Reply as Replied, reply_status};
@@ -35,16 +35,14 @@ pub fn run<A: Actions, T: Transforms, F: Folder, W: Printer>(
     tables: &Tables<A, T>,
 ) -> Option<u8>
     // Over any folder: no change is requested.
-    ensures requests { Requests F.failures F.may_leave F.allowed no_change folder.old folder.new }
-    ensures back { F.faithful folder.new → F.faithful folder.old }
-    ensures same { F.faithful folder.new → F.contents folder.new ≡ F.contents folder.old }
+    ensures reads { OnlyReads F.device folder.old folder.new }
     // There is an answer, whether it could be printed or not. If it could, exactly its text is
     // printed, and the status is its own; if not, a beginning of its text is printed.
     ensures reported { (answer : Answered)
-        × Answers (tables_of T.meanings A.meanings tables.now) (F.faithful folder.new)
+        × Answers (tables_of T.meanings A.meanings tables.now) (F.device.faithful folder.new)
         (given_of (λ words. map string_bytes words.items) words)
-        (record { contents = F.contents folder.old; failures = F.failures folder.old })
-        answer (F.failures folder.new)
+        (record { contents = F.device.contents folder.old; failures = F.device.failures folder.old })
+        answer (F.device.failures folder.new)
         × (reply : Replied) × IsWritten notation answer reply
         × Prints W.contents W.whole (why_text reply) writer.old writer.new
         × IfSome result (λ status.
@@ -65,13 +63,11 @@ fn answered<A: Actions, T: Transforms, F: Folder>(
     words: Result<Vec<String>, Fault>,
     tables: &Tables<A, T>,
 ) -> Answer
-    ensures requests { Requests F.failures F.may_leave F.allowed no_change folder.old folder.new }
-    ensures back { F.faithful folder.new → F.faithful folder.old }
-    ensures same { F.faithful folder.new → F.contents folder.new ≡ F.contents folder.old }
-    ensures answers { Answers (tables_of T.meanings A.meanings tables.now) (F.faithful folder.new)
+    ensures reads { OnlyReads F.device folder.old folder.new }
+    ensures answers { Answers (tables_of T.meanings A.meanings tables.now) (F.device.faithful folder.new)
         (given_of (λ words. map string_bytes words.items) words)
-        (record { contents = F.contents folder.old; failures = F.failures folder.old })
-        result (F.failures folder.new) }
+        (record { contents = F.device.contents folder.old; failures = F.device.failures folder.old })
+        result (F.device.failures folder.new) }
 {
     match asked_by(alloc, words) {
         Ok(invocation) => predict_build(alloc, folder, tables, &invocation),

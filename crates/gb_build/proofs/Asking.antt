@@ -1,10 +1,9 @@
 -- The calls that a build makes, from those of its parts.
-use Rattle.std.specs.Prelude.{ℕ, ◌≡◌, false, List, Option, Result, Ok, Err}
+use Rattle.std.specs.Prelude.{◌≡◌, false, List, Option, Result, Ok, Err}
 use Rattle.std.specs.List.{AllZip}
 use Rattle.std.proofs.Common.{subst, sym}
 use Rattle.gb_action.specs.Meanings.{Meanings}
-use Rattle.gb_folder.specs.Calls.{Requests, Call, no_change}
-use Rattle.gb_folder.specs.Files.{Tearing}
+use Rattle.gb_folder.specs.Calls.{Requests, no_change, Device}
 use Rattle.gb_folder.proofs.Asked.{requests_nothing, requests_then}
 use Rattle.gb_meaning.specs.declared.events.Invocation.{Invocation}
 use Rattle.gb_plan.specs.Graph.{Plan, Registry, order}
@@ -16,16 +15,16 @@ use Rattle.gb_report.specs.declared.report.Report.{Report}
 use Rattle.gb_report.specs.declared.report.TaskReport.{TaskReport}
 use Rattle.gb_build.specs.RequestAsked.{BuildRequests, PlanRequests}
 
-module _ {F S : Type 0} {failures : F → ℕ} {may_leave : F → Tearing} {allowed : F → Call → F → Type 0} (meanings : Meanings S) (rows : Rows S) where
+module _ {F S : Type 0} {device : Device F} (meanings : Meanings S) (rows : Rows S) where
   -- a refused build
   pub refused_requests : (registry : Registry) (invocation : Invocation) (result : Result Report Fault) (fault : Fault) (old new : F) → result ≡ Err fault
-      → Requests failures may_leave allowed no_change old new → BuildRequests failures may_leave allowed meanings rows registry invocation result old new
+      → Requests device no_change old new → BuildRequests device meanings rows registry invocation result old new
   refused_requests registry invocation result fault old new is requests =
-      subst (λ (r : Result Report Fault). BuildRequests failures may_leave allowed meanings rows registry invocation r old new) (sym is) requests
+      subst (λ (r : Result Report Fault). BuildRequests device meanings rows registry invocation r old new) (sym is) requests
 
   -- the calls that read before it belong to those of a build
-  pub requests_before : (options : Options) (plan : Plan) (reports : List TaskReport) (first old new : F) → Requests failures may_leave allowed no_change first old
-      → PlanRequests failures may_leave allowed meanings rows options plan reports old new → PlanRequests failures may_leave allowed meanings rows options plan reports first new
+  pub requests_before : (options : Options) (plan : Plan) (reports : List TaskReport) (first old new : F) → Requests device no_change first old
+      → PlanRequests device meanings rows options plan reports old new → PlanRequests device meanings rows options plan reports first new
   requests_before options plan reports first old new before by = record {
     records = by.records;
     begun = by.begun;

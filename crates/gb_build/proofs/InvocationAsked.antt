@@ -2,8 +2,7 @@
 use Rattle.std.specs.Prelude.{ℕ, ◌≡◌, List, Result, Ok, Err, OnOk}
 use Rattle.std.proofs.Common.{subst, sym}
 use Rattle.gb_declare.specs.Registered.{registry_said}
-use Rattle.gb_folder.specs.Calls.{Requests, Call, no_change}
-use Rattle.gb_folder.specs.Files.{Tearing}
+use Rattle.gb_folder.specs.Calls.{Requests, no_change, Device}
 use Rattle.gb_folder.proofs.Asked.{requests_then}
 use Rattle.gb_build.specs.Asking.{AreBuildable}
 use Rattle.gb_build.specs.Found.{IsDeclared}
@@ -16,24 +15,24 @@ use Rattle.gb_report.specs.declared.fault.Fault.{Fault}
 use Rattle.gb_report.specs.declared.report.Report.{Report}
 use Rattle.gb_build.specs.InvocationAsked.{InvocationRequests}
 
-module _ {F M N Z S A : Type 0} (failures : F → ℕ) (may_leave : F → Tearing) (allowed : F → Call → F → Type 0) (tables : Tables M N Z S A) (invocation : Invocation) where
+module _ {F M N Z S A : Type 0} (device : Device F) (tables : Tables M N Z S A) (invocation : Invocation) where
   -- a refused one
-  pub refusal_requests : (result : Result Report Fault) (fault : Fault) (old new : F) → result ≡ Err fault → Requests failures may_leave allowed no_change old new
-      → InvocationRequests failures may_leave allowed tables invocation result old new
-  refusal_requests result fault old new is requests = subst (λ (r : Result Report Fault). InvocationRequests failures may_leave allowed tables invocation r old new) (sym is) requests
+  pub refusal_requests : (result : Result Report Fault) (fault : Fault) (old new : F) → result ≡ Err fault → Requests device no_change old new
+      → InvocationRequests device tables invocation result old new
+  refusal_requests result fault old new is requests = subst (λ (r : Result Report Fault). InvocationRequests device tables invocation r old new) (sym is) requests
 
   -- a build of what the scripts register, once they have been read
   pub declared_requests : (result : Result Report Fault) (source : Source) (given : List (List ℕ × List ℕ)) (old begun new : F) → given ≡ invocation.properties
-      → Requests failures may_leave allowed no_change old begun → IsDeclared failures may_leave allowed tables given old begun source
+      → Requests device no_change old begun → IsDeclared device tables given old begun source
       → OnOk result (IsRegistry (registry_said tables source) × AreBuildable tables.shapes tables.kinds (registry_said tables source))
-      → BuildRequests failures may_leave allowed tables.shapes tables.kinds (registry_said tables source) invocation result begun new
-      → InvocationRequests failures may_leave allowed tables invocation result old new
+      → BuildRequests device tables.shapes tables.kinds (registry_said tables source) invocation result begun new
+      → InvocationRequests device tables invocation result old new
   declared_requests (Err fault) source given old begun new are first declared sound requests = requests_then first requests
   declared_requests (Ok report) source given old begun new are first declared sound requests = record {
     source = source;
     begun = begun;
     first = first;
-    declared = subst (λ (values : List (List ℕ × List ℕ)). IsDeclared failures may_leave allowed tables values old begun source) are declared;
+    declared = subst (λ (values : List (List ℕ × List ℕ)). IsDeclared device tables values old begun source) are declared;
     is_registry = sound.0;
     buildable = sound.1;
     by = requests.0;

@@ -2,8 +2,8 @@
 use Rattle.std.specs.Prelude.{ℕ, ◌≡◌, List, [], ◌∷◌, Option, Some, None, Result, Ok, Err, IfOk, MatchResult}
 use Rattle.std.proofs.Common.{ap, ◌∙◌}
 use Rattle.gb_folder.specs.Answers.{IsOnWay}
-use Rattle.gb_folder.specs.Calls.{Call, Reads, Requests, no_change}
-use Rattle.gb_folder.specs.Files.{Bytes, Place, Tearing}
+use Rattle.gb_folder.specs.Calls.{Reads, Requests, no_change, Device}
+use Rattle.gb_folder.specs.Files.{Bytes, Place}
 use Rattle.gb_folder.specs.declared.folder.FolderFault.TheVariants as folders
 use Rattle.gb_folder.proofs.Answering.{on_longer_way, on_way_here}
 use Rattle.gb_report.specs.declared.fault.Fault.{Fault}
@@ -18,43 +18,43 @@ use Rattle.gb_registry.specs.Tables.{Tables}
 use Rattle.gb_build.specs.Found.{IsDeclared, WasFound, WasParsed, WereParsed}
 use Rattle.gb_build.specs.Scripts.{script_places, settings_place}
 
-module _ {F : Type 0} {failures : F → ℕ} {may_leave : F → Tearing} {allowed : F → Call → F → Type 0} where
-  found_longer : {first old new end : F} → Requests failures may_leave allowed no_change first old → Requests failures may_leave allowed no_change new end
-      → (place : Place) (found : Option Bytes) → WasFound failures may_leave allowed old new place found → WasFound failures may_leave allowed first end place found
+module _ {F : Type 0} {device : Device F} where
+  found_longer : {first old new end : F} → Requests device no_change first old → Requests device no_change new end
+      → (place : Place) (found : Option Bytes) → WasFound device old new place found → WasFound device first end place found
   found_longer before following place None was = (was.0, on_longer_way before following was.1)
   found_longer before following place (Some bytes) was = (was.0, on_longer_way before following was.1)
 
   -- what was parsed of a part of the calls was parsed of all
-  pub parsed_longer : {X : Type 0} (SaysAs : Bytes → Result (List X) ScriptFault → Type 0) {first old new end : F} → Requests failures may_leave allowed no_change first old
-      → Requests failures may_leave allowed no_change new end → (place : Place) (said : List X) → WasParsed failures may_leave allowed SaysAs old new place said
-      → WasParsed failures may_leave allowed SaysAs first end place said
+  pub parsed_longer : {X : Type 0} (SaysAs : Bytes → Result (List X) ScriptFault → Type 0) {first old new end : F} → Requests device no_change first old
+      → Requests device no_change new end → (place : Place) (said : List X) → WasParsed device SaysAs old new place said
+      → WasParsed device SaysAs first end place said
   parsed_longer SaysAs before following place said was = (was.0, found_longer before following place was.0 was.1, was.2)
 
-  pub all_parsed_longer : {first old new end : F} → Requests failures may_leave allowed no_change first old → Requests failures may_leave allowed no_change new end
-      → (places : List Place) (texts : List (List Statement)) → WereParsed failures may_leave allowed old new places texts → WereParsed failures may_leave allowed first end places texts
+  pub all_parsed_longer : {first old new end : F} → Requests device no_change first old → Requests device no_change new end
+      → (places : List Place) (texts : List (List Statement)) → WereParsed device old new places texts → WereParsed device first end places texts
   all_parsed_longer before following [] [] were = tt
   all_parsed_longer before following [] (text ∷ texts) were = absurd were
   all_parsed_longer before following (place ∷ places) [] were = absurd were
   all_parsed_longer before following (place ∷ places) (text ∷ texts) were =
       (parsed_longer Says before following place text were.0, all_parsed_longer before following places texts were.1)
 
-module _ {F : Type 0} (failures : F → ℕ) (may_leave : F → Tearing) (allowed : F → Call → F → Type 0) where
+module _ {F : Type 0} (device : Device F) where
   -- a text that was read here
   pub parsed_here : {X : Type 0} (SaysAs : Bytes → Result (List X) ScriptFault → Type 0) (old new : F) (place : Place) (limit : ℕ) (bytes : Bytes) (Else : Fault → Type 0) (result : Result (List X) Fault)
-      → allowed old (Reads place limit (Ok bytes)) new → MatchResult result (λ said. SaysAs bytes (Ok said)) Else → IfOk result (WasParsed failures may_leave allowed SaysAs old new place)
+      → device.allowed old (Reads place limit (Ok bytes)) new → MatchResult result (λ said. SaysAs bytes (Ok said)) Else → IfOk result (WasParsed device SaysAs old new place)
   parsed_here SaysAs old new place limit bytes Else (Ok said) is says = (Some bytes, (limit, on_way_here is), says)
   parsed_here SaysAs old new place limit bytes Else (Err fault) is says = tt
 
   -- there was no file
   pub none_here : {X : Type 0} (SaysAs : Bytes → Result (List X) ScriptFault → Type 0) (old new : F) (place : Place) (limit : ℕ) (said : List X)
-      → allowed old (Reads place limit (Err folders.Missing)) new → said ≡ [] → WasParsed failures may_leave allowed SaysAs old new place said
+      → device.allowed old (Reads place limit (Err folders.Missing)) new → said ≡ [] → WasParsed device SaysAs old new place said
   none_here SaysAs old new place limit said is none = (None, (limit, on_way_here is), ap Ok none)
 
   -- what the texts that were parsed declare, where nothing is wrong with it
   pub declared_here : {M A Z S T V : Type 0} (tables : Tables M A Z S T) (given : List (List ℕ × List ℕ)) (old new : F) (settings : List (List (List ℕ))) (texts : List (List Statement))
-      (result : Result V Fault) (registry : V → Source) → WasParsed failures may_leave allowed SaysAsSettings old new settings_place settings → settings_faults settings ≡ []
-      → WereParsed failures may_leave allowed old new (script_places (projects_of settings)) texts → IfOk result (λ made. registry made ≡ source_of settings texts given)
-      → ReportsFirst (configure_faults tables (source_of settings texts given)) result → IfOk result (λ made. IsDeclared failures may_leave allowed tables given old new (registry made))
+      (result : Result V Fault) (registry : V → Source) → WasParsed device SaysAsSettings old new settings_place settings → settings_faults settings ≡ []
+      → WereParsed device old new (script_places (projects_of settings)) texts → IfOk result (λ made. registry made ≡ source_of settings texts given)
+      → ReportsFirst (configure_faults tables (source_of settings texts given)) result → IfOk result (λ made. IsDeclared device tables given old new (registry made))
   declared_here tables given old new settings texts (Ok made) registry parsed pass all is first = record {
     settings = settings;
     settings_parsed = parsed;

@@ -1,6 +1,6 @@
 -- What an invocation does, from the parts of it.
-use Rattle.std.proofs.Common.{ℕ, ◌≡◌, ◌≤◌, ◌∷◌, [], true, Result, Err, IfErr, IfOk, IsTrue, OnErr, subst, sym}
-use Rattle.gb_folder.specs.Calls.{Call, Requests, no_change}
+use Rattle.std.proofs.Common.{◌≡◌, ◌≤◌, ◌∷◌, [], true, Result, Err, IfErr, IfOk, IsTrue, OnErr, subst, sym}
+use Rattle.gb_folder.specs.Calls.{Requests, no_change, Device}
 use Rattle.gb_folder.specs.Files.{Place, Tearing}
 use Rattle.gb_meaning.specs.Edits.{Shown}
 use Rattle.gb_meaning.specs.Events.{IsNotBuilt, is_read_first}
@@ -56,16 +56,17 @@ module _ {M F Z S A : Type 0} (tables : Tables M F Z S A) (may_leave : Tearing) 
 
 -- ---- Over any folder
 
-module _ {F M N Z S A : Type 0} (failures : F → ℕ) (may_leave : F → Tearing) (allowed : F → Call → F → Type 0) (tables : Tables M N Z S A) (invocation : Invocation) (result : Result Report Fault) (old new : F) where
+module _ {F M N Z S A : Type 0} (device : Device F) (tables : Tables M N Z S A) (invocation : Invocation) (result : Result Report Fault) (old new : F) where
   -- a refusal
-  pub refusal_does : (fault : Fault) → result ≡ Err fault → Requests failures may_leave allowed no_change old new → HasFailed (times_blamed (answer_of result)) (failures old) (failures new)
-      → ((place : Place) → fault ≡ faults.Device place → IsTrue (is_read_first invocation.options place)) → IsInvocation failures may_leave allowed tables invocation result old new
-  refusal_does fault is requests device places = record {
-    requests = refusal_requests failures may_leave allowed tables invocation result fault old new is requests;
+  pub refusal_does : (fault : Fault) → result ≡ Err fault → Requests device no_change old new → HasFailed (times_blamed (answer_of result)) (device.failures old) (device.failures new)
+      → ((place : Place) → fault ≡ faults.Device place → IsTrue (is_read_first invocation.options place)) → IsInvocation device tables invocation result old new
+  refusal_does fault is requests blamed places = record {
+    requests = refusal_requests device tables invocation result fault old new is requests;
     dry_run = subst (λ (r : Result Report Fault). IfOk r (λ report. report.dry_run ≡ invocation.options.dry_run)) (sym is) tt;
     outlined = subst (λ (r : Result Report Fault). IfOk r (IsOutlined invocation)) (sym is) tt;
     places = of_fault (λ (f : Fault). (place : Place) → f ≡ faults.Device place → IsTrue (is_read_first invocation.options place)) result fault is places;
-    device = device;
+    blame = blamed;
     count = requests.count;
     tearing = requests.tearing;
+    back = requests.back;
   }

@@ -3,8 +3,7 @@ use Rattle.std.proofs.Common.{◌≡◌, ◌<◌, ◌+◌, Option, ℕ, zero, su
 use Rattle.std.specs.List.{list_all}
 use Rattle.std.proofs.lemmas.List.{take_more, map-append}
 use Rattle.gb_core.proofs.TaskPaths.{left_of, right_of}
-use Rattle.gb_folder.specs.Calls.{Call}
-use Rattle.gb_folder.specs.Files.{Place, Files, Tearing}
+use Rattle.gb_folder.specs.Files.{Place, Files}
 use Rattle.gb_registry.specs.Projects.{Path}
 use Rattle.gb_report.specs.declared.fault.Fault.{Fault}
 use Rattle.gb_script.specs.Script.{Says}
@@ -13,6 +12,7 @@ use Rattle.gb_build.specs.Found.{WasParsed, WereParsed}
 use Rattle.gb_build.specs.Scripts.{AreTexts, IsFirstFault, script_place, script_places}
 use Rattle.gb_build.specs.Texts.{TextSays}
 use Rattle.gb_exec.proofs.Walking.{zip_more}
+use Rattle.gb_folder.specs.Calls.{Device}
 
 abbrev Projects : Type 0
 Projects = List (Path × Option Place)
@@ -33,14 +33,14 @@ text_more files projects i project texts more text low at before here is =
     (zip_more (λ place text. TextSays Says files place (Ok text)) (script_places (take i projects)) texts (script_place project.1) text before here)
 
 -- so do they if calls returned them
-pub parsed_more : {F : Type 0} {failures : F → ℕ} {may_leave : F → Tearing} {allowed : F → Call → F → Type 0} {old new : F} (projects : Projects) (i : ℕ) (project : Path × Option Place)
+pub parsed_more : {F : Type 0} {device : Device F} {old new : F} (projects : Projects) (i : ℕ) (project : Path × Option Place)
     (texts more : List (List Statement)) (text : List Statement)
-    → i < length projects → project ≡ get_or projects i project → WereParsed failures may_leave allowed old new (script_places (take i projects)) texts
-    → WasParsed failures may_leave allowed Says old new (script_place project.1) text → more ≡ texts ++ text ∷ []
-    → WereParsed failures may_leave allowed old new (script_places (take (i + 1) projects)) more
-parsed_more {failures = failures} {may_leave = may_leave} {allowed = allowed} {old = old} {new = new} projects i project texts more text low at before here is =
+    → i < length projects → project ≡ get_or projects i project → WereParsed device old new (script_places (take i projects)) texts
+    → WasParsed device Says old new (script_place project.1) text → more ≡ texts ++ text ∷ []
+    → WereParsed device old new (script_places (take (i + 1) projects)) more
+parsed_more {device = device} {old = old} {new = new} projects i project texts more text low at before here is =
     rw (places_more projects i project low at, is)
-    (zip_more (λ place text. WasParsed failures may_leave allowed Says old new place text) (script_places (take i projects)) texts (script_place project.1) text before here)
+    (zip_more (λ place text. WasParsed device Says old new place text) (script_places (take i projects)) texts (script_place project.1) text before here)
 
 -- one more makes one more
 pub long_more : {X : Type 0} (xs more : List X) (x : X) (n : ℕ) → more ≡ xs ++ x ∷ [] → length xs ≡ n → length more ≡ n + 1

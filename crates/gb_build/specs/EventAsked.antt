@@ -1,7 +1,7 @@
 -- The calls that events make, over any folder.
-use Rattle.std.specs.Prelude.{ℕ, ◌≡◌, ◌⊎◌, List, [], ◌∷◌, Result, Ok, Err}
-use Rattle.gb_folder.specs.Calls.{Requests, Call, Removes, Writes, no_change, takes_at}
-use Rattle.gb_folder.specs.Files.{Bytes, Place, Tearing, is_own}
+use Rattle.std.specs.Prelude.{◌≡◌, ◌⊎◌, List, [], ◌∷◌, Result, Ok, Err}
+use Rattle.gb_folder.specs.Calls.{Requests, Call, Removes, Writes, no_change, takes_at, Device}
+use Rattle.gb_folder.specs.Files.{Bytes, Place, is_own}
 use Rattle.gb_folder.specs.Limits.{max_file}
 use Rattle.gb_folder.specs.declared.folder.FolderFault.{FolderFault}
 use Rattle.gb_meaning.specs.declared.events.Answer.{Answer}
@@ -20,24 +20,24 @@ RequestsOnce allowed call old new =
 
 -- An edit makes at most one call, at its own place; a loss removes only in `.gb`; and an invocation makes the
 -- calls that its answer permits.
-abbrev pub EventRequests : {F M N Z S A : Type 0} → (F → ℕ) → (F → Tearing) → (F → Call → F → Type 0)
+abbrev pub EventRequests : {F M N Z S A : Type 0} → Device F
     → Tables M N Z S A → Event → Answer → F → F → Type 0
-EventRequests failures may_leave allowed tables (events.Put place bytes) answer old new =
-    RequestsOnce allowed (Writes place bytes max_file) old new
-EventRequests failures may_leave allowed tables (events.Remove place) answer old new =
-    RequestsOnce allowed (Removes place) old new
-EventRequests failures may_leave allowed tables events.Lost answer old new =
-    Requests failures may_leave allowed (takes_at is_own) old new
-EventRequests failures may_leave allowed tables (events.Invoke invocation) (answers.Built report)
+EventRequests device tables (events.Put place bytes) answer old new =
+    RequestsOnce device.allowed (Writes place bytes max_file) old new
+EventRequests device tables (events.Remove place) answer old new =
+    RequestsOnce device.allowed (Removes place) old new
+EventRequests device tables events.Lost answer old new =
+    Requests device (takes_at is_own) old new
+EventRequests device tables (events.Invoke invocation) (answers.Built report)
     old new =
-    InvocationRequests failures may_leave allowed tables invocation (Ok report) old new
-EventRequests failures may_leave allowed tables (events.Invoke invocation) answer old new =
-    Requests failures may_leave allowed no_change old new
+    InvocationRequests device tables invocation (Ok report) old new
+EventRequests device tables (events.Invoke invocation) answer old new =
+    Requests device no_change old new
 
 -- one event after another
-abbrev pub EventsRequest : {F M N Z S A : Type 0} → (F → ℕ) → (F → Tearing) → (F → Call → F → Type 0)
+abbrev pub EventsRequest : {F M N Z S A : Type 0} → Device F
     → Tables M N Z S A → List Event → List Answer → F → F → Type 0
-EventsRequest failures may_leave allowed tables (event ∷ rest) (answer ∷ others) old new =
-    (mid : _) × EventRequests failures may_leave allowed tables event answer old mid
-    × EventsRequest failures may_leave allowed tables rest others mid new
-EventsRequest failures may_leave allowed tables all reported old new = new ≡ old
+EventsRequest device tables (event ∷ rest) (answer ∷ others) old new =
+    (mid : _) × EventRequests device tables event answer old mid
+    × EventsRequest device tables rest others mid new
+EventsRequest device tables all reported old new = new ≡ old

@@ -2,8 +2,8 @@
 use Rattle.std.specs.Prelude.{ℕ, ◌≡◌, List, [], Option, None, Some, Result, Ok, Err}
 use Rattle.std.specs.List.{AllZip}
 use Rattle.gb_folder.specs.Answers.{IsOnWay}
-use Rattle.gb_folder.specs.Calls.{Call, Reads}
-use Rattle.gb_folder.specs.Files.{Bytes, Place, Tearing}
+use Rattle.gb_folder.specs.Calls.{Reads, Device}
+use Rattle.gb_folder.specs.Files.{Bytes, Place}
 use Rattle.gb_folder.specs.declared.folder.FolderFault.TheVariants as folders
 use Rattle.gb_registry.specs.Configure.{configure_faults}
 use Rattle.gb_registry.specs.Projects.{projects_of, settings_faults}
@@ -15,13 +15,13 @@ use Rattle.gb_script.specs.declared.script.Statement.{Statement}
 use Rattle.gb_build.specs.Scripts.{script_places, settings_place}
 use Rattle.gb_build.specs.Texts.{FileSays}
 
-module _ {F : Type 0} (failures : F → ℕ) (may_leave : F → Tearing) (allowed : F → Call → F → Type 0) where
+module _ {F : Type 0} (device : Device F) where
   -- What a call returned of the file at a place: its bytes, or that there is none.
   abbrev pub WasFound : F → F → Place → Option Bytes → Type 0
   WasFound old new place None =
-      (limit : ℕ) × IsOnWay failures may_leave allowed (Reads place limit (Err folders.Missing)) old new
+      (limit : ℕ) × IsOnWay device (Reads place limit (Err folders.Missing)) old new
   WasFound old new place (Some bytes) =
-      (limit : ℕ) × IsOnWay failures may_leave allowed (Reads place limit (Ok bytes)) old new
+      (limit : ℕ) × IsOnWay device (Reads place limit (Ok bytes)) old new
 
   -- In this notation it parses as this; where there is no file, nothing is declared.
   abbrev pub WasParsed : {X : Type 0} → (Bytes → Result (List X) ScriptFault → Type 0) → F → F → Place

@@ -1,6 +1,5 @@
 -- What one invocation does: over any folder, and where the contents of the folder are known.
-use Rattle.std.specs.Prelude.{ℕ, ◌≡◌, ◌≤◌, ◌∷◌, [], true, Result, IfErr, IfOk, IsTrue, OnErr}
-use Rattle.gb_folder.specs.Calls.{Call}
+use Rattle.std.specs.Prelude.{◌≡◌, ◌≤◌, ◌∷◌, [], true, Result, IfErr, IfOk, IsTrue, OnErr}
 use Rattle.gb_folder.specs.Files.{Place, SameTearing, Tearing}
 use Rattle.gb_meaning.specs.Edits.{Shown}
 use Rattle.gb_meaning.specs.Events.{IsNotBuilt, is_read_first}
@@ -18,15 +17,15 @@ use Rattle.gb_report.specs.declared.report.Report.{Report}
 use Rattle.gb_build.specs.InvocationAsked.{InvocationRequests}
 use Rattle.gb_build.specs.Leading.{IsTransition}
 use Rattle.gb_build.specs.Registering.{registers_in, setting_of}
+use Rattle.gb_folder.specs.Calls.{Device}
 
 -- Over any folder: the calls of an invocation, and what its answer may be.
-pub record IsInvocation {F M N Z S A : Type 0} (failures : F → ℕ) (may_leave : F → Tearing)
-    (allowed : F → Call → F → Type 0) (tables : Tables M N Z S A) (invocation : Invocation)
-    (answer : Result Report Fault) (old new : F) : Type 0 where
+pub record IsInvocation {F M N Z S A : Type 0} (device : Device F) (tables : Tables M N Z S A)
+    (invocation : Invocation) (answer : Result Report Fault) (old new : F) : Type 0 where
   -- The plan is that of the scripts that calls returned. A write or a removal is requested only at or under
   -- an output of a task of this plan or at the record of one, and the text of such a record is that of a run
   -- of the task. A refused build and a dry run request none.
-  pub requests : InvocationRequests failures may_leave allowed tables invocation answer old new
+  pub requests : InvocationRequests device tables invocation answer old new
   pub dry_run : IfOk answer (λ report. report.dry_run ≡ invocation.options.dry_run)
   -- For some registry, the report is that of the plan of the request. Which of its tasks start, and which
   -- outcomes each may have, is as `Outlines` says.
@@ -35,11 +34,13 @@ pub record IsInvocation {F M N Z S A : Type 0} (failures : F → ℕ) (may_leave
   -- `settings.gb`, one whose last segment is `build.gb`, or, except in a dry run, one in `.gb`.
   pub places : IfErr answer (λ fault. (place : Place) → fault ≡ faults.Device place
       → IsTrue (is_read_first invocation.options place))
+  pub count : device.failures old ≤ device.failures new
+  pub tearing : SameTearing (device.may_leave old) (device.may_leave new)
+  -- If the contents are known at the end, they were known at the beginning.
+  pub back : device.faithful new → device.faithful old
   -- Faults are attributed to the device no more often than it failed, as long as the folder's count of
   -- failures is below 2^64 - 1, the last value that it can have.
-  pub device : HasFailed (times_blamed (answer_of answer)) (failures old) (failures new)
-  pub count : failures old ≤ failures new
-  pub tearing : SameTearing (may_leave old) (may_leave new)
+  pub blame : HasFailed (times_blamed (answer_of answer)) (device.failures old) (device.failures new)
 
 -- Where contents are known: the promise. Only the last three need an assumption, about the kinds and the
 -- device.

@@ -1,10 +1,9 @@
 -- The calls that a build makes, over any folder.
-use Rattle.std.specs.Prelude.{ℕ, ◌≡◌, false, List, Option, Result, Ok, Err}
+use Rattle.std.specs.Prelude.{◌≡◌, false, List, Option, Result, Ok, Err}
 use Rattle.std.specs.List.{AllZip}
 use Rattle.gb_action.specs.Meanings.{Meanings}
 use Rattle.gb_exec.specs.Asking.{ExecutionsRequest}
-use Rattle.gb_folder.specs.Calls.{Requests, Call, no_change}
-use Rattle.gb_folder.specs.Files.{Tearing}
+use Rattle.gb_folder.specs.Calls.{Requests, no_change, Device}
 use Rattle.gb_history.specs.Record.{Record}
 use Rattle.gb_meaning.specs.Outline.{IsOutlinedBy}
 use Rattle.gb_meaning.specs.declared.events.Invocation.{Invocation}
@@ -19,24 +18,23 @@ use Rattle.gb_report.specs.declared.report.TaskReport.{TaskReport}
 -- First no change is requested, and calls return these records of the plan's tasks, except in a dry run. From
 -- there on the tasks are executed, each by its record and its report. What is up to date is found so on what
 -- calls return from there on.
-pub record PlanRequests {F S : Type 0} (failures : F → ℕ) (may_leave : F → Tearing)
-    (allowed : F → Call → F → Type 0) (meanings : Meanings S) (rows : Rows S) (options : Options)
-    (plan : Plan) (reports : List TaskReport)
+pub record PlanRequests {F S : Type 0} (device : Device F) (meanings : Meanings S) (rows : Rows S)
+    (options : Options) (plan : Plan) (reports : List TaskReport)
     (old new : F) : Type 0 where
   pub records : List (Option Record)
   pub begun : F
-  pub first : Requests failures may_leave allowed no_change old begun
+  pub first : Requests device no_change old begun
   pub answered : options.dry_run ≡ false
-      → AllZip (WasAnswered failures may_leave allowed old begun) (order plan) records
-  pub executions : ExecutionsRequest failures may_leave allowed meanings rows options plan records reports
+      → AllZip (WasAnswered device old begun) (order plan) records
+  pub executions : ExecutionsRequest device meanings rows options plan records reports
       begun begun new
 
 -- a refused build requests no change; another makes the calls of its plan
-abbrev pub BuildRequests : {F S : Type 0} → (F → ℕ) → (F → Tearing) → (F → Call → F → Type 0) → Meanings S
+abbrev pub BuildRequests : {F S : Type 0} → Device F → Meanings S
     → Rows S
     → Registry → Invocation → Result Report Fault → F → F → Type 0
-BuildRequests failures may_leave allowed meanings rows registry invocation (Err fault) old new =
-    Requests failures may_leave allowed no_change old new
-BuildRequests failures may_leave allowed meanings rows registry invocation (Ok report) old new =
+BuildRequests device meanings rows registry invocation (Err fault) old new =
+    Requests device no_change old new
+BuildRequests device meanings rows registry invocation (Ok report) old new =
     (by : IsOutlinedBy registry invocation report)
-    × PlanRequests failures may_leave allowed meanings rows invocation.options by.plan report.tasks old new
+    × PlanRequests device meanings rows invocation.options by.plan report.tasks old new

@@ -1,7 +1,7 @@
 //! What is read before a build.
 ghost use Rattle.std.specs.Prelude.{◌≡◌, true, false, length, IfErr, IfOk};
 ghost use Rattle.std.specs.List.{AllZip};
-ghost use Rattle.gb_folder.specs.Calls.{Requests, no_change};
+ghost use Rattle.gb_folder.specs.Calls.{OnlyReads};
 ghost use Rattle.gb_plan.specs.Graph.{order};
 ghost use Rattle.gb_records.specs.Answered.{WasAnswered};
 ghost use Rattle.gb_records.specs.Said.{IsReadAt};
@@ -24,18 +24,16 @@ pub fn records_for<F: Folder>(
     dry_run: bool,
 ) -> Result<Vec<Option<Record>>, Fault>
     ensures each { IfOk result (λ records. length records.items ≡ length tasks.now) }
-    ensures back { F.faithful folder.new → F.faithful folder.old }
-    ensures requests { Requests F.failures F.may_leave F.allowed no_change folder.old folder.new }
+    ensures reads { OnlyReads F.device folder.old folder.new }
     // Over any folder: each record is what a call at its place returned.
     ensures answered { dry_run ≡ false → IfOk result (λ records. AllZip
-        (WasAnswered F.failures F.may_leave F.allowed folder.old folder.new) (order tasks.now)
+        (WasAnswered F.device folder.old folder.new) (order tasks.now)
         records.items) }
-    ensures same { F.faithful folder.new → F.contents folder.new ≡ F.contents folder.old }
     ensures dry { dry_run ≡ true → folder.new ≡ folder.old }
-    ensures read { F.faithful folder.new → dry_run ≡ false → IfOk result
-        (λ records. AllZip (IsReadAt (F.contents folder.old).files) (order tasks.now) records.items) }
+    ensures read { F.device.faithful folder.new → dry_run ≡ false → IfOk result
+        (λ records. AllZip (IsReadAt (F.device.contents folder.old).files) (order tasks.now) records.items) }
     ensures unread { IfErr result
-        (IsUnread dry_run (F.failures folder.old) (F.failures folder.new)) }
+        (IsUnread dry_run (F.device.failures folder.old) (F.device.failures folder.new)) }
 {
     let mut records = if dry_run {
         Vec::new(alloc)

@@ -3,7 +3,7 @@ ghost use Rattle.std.specs.Prelude.{◌≡◌, ◌⊎◌, Ok, Err, IsTrue, IfOk,
 ghost use Rattle.std.specs.List.{list_all};
 ghost use Rattle.std.specs.Option.{option_copied};
 ghost use Rattle.gb_core.specs.Place.{is_place};
-ghost use Rattle.gb_folder.specs.Calls.{Requests, no_change};
+ghost use Rattle.gb_folder.specs.Calls.{OnlyReads};
 ghost use Rattle.gb_script.specs.Script.{Says};
 ghost use Rattle.gb_store.specs.Faults.{Blames, BlamesOnly, IsOfMachine};
 ghost use Rattle.gb_build.specs.Found.{WasParsed, WereParsed};
@@ -25,18 +25,17 @@ pub fn read_scripts<F: Folder>(
     projects: &[(ProjectPath, Option<Place>)],
 ) -> Result<Vec<Script>, Fault>
     requires places { IsTrue (list_all (λ place. is_place place) (script_places projects.now)) }
-    ensures requests { Requests F.failures F.may_leave F.allowed no_change folder.old folder.new }
-    ensures back { F.faithful folder.new → F.faithful folder.old }
-    ensures blame { Blames result (F.failures folder.old) (F.failures folder.new) }
+    ensures reads { OnlyReads F.device folder.old folder.new }
+    ensures blame { Blames result (F.device.failures folder.old) (F.device.failures folder.new) }
     ensures blamed { BlamesOnly is_script_place result }
-    ensures same { F.faithful folder.new → F.contents folder.new ≡ F.contents folder.old }
     ensures one_each { IfOk result (λ scripts. length scripts.items ≡ length projects.now) }
-    ensures said { F.faithful folder.new → MatchResult result
-        (λ scripts. ScriptsSay (F.contents folder.old).files (script_places projects.now) (Ok scripts.items))
-        (λ fault. IsOfMachine (F.failures folder.old) (F.failures folder.new) fault
-        ⊎ ScriptsSay (F.contents folder.old).files (script_places projects.now) (Err fault)) }
+    ensures said { F.device.faithful folder.new → MatchResult result
+        (λ scripts. ScriptsSay (F.device.contents folder.old).files (script_places projects.now)
+        (Ok scripts.items))
+        (λ fault. IsOfMachine (F.device.failures folder.old) (F.device.failures folder.new) fault
+        ⊎ ScriptsSay (F.device.contents folder.old).files (script_places projects.now) (Err fault)) }
     // Over any folder: calls returned these texts.
-    ensures parsed { IfOk result (λ scripts. WereParsed F.failures F.may_leave F.allowed folder.old
+    ensures parsed { IfOk result (λ scripts. WereParsed F.device folder.old
         folder.new (script_places projects.now) scripts.items) }
 {
     let mut scripts = Vec::new(alloc);
@@ -53,15 +52,13 @@ fn read_script_of<F: Folder>(
     project: &(ProjectPath, Option<Place>),
 ) -> Result<Script, Fault>
     requires place { IsTrue (is_place (script_place project.now.1)) }
-    ensures requests { Requests F.failures F.may_leave F.allowed no_change folder.old folder.new }
-    ensures back { F.faithful folder.new → F.faithful folder.old }
-    ensures blame { Blames result (F.failures folder.old) (F.failures folder.new) }
+    ensures reads { OnlyReads F.device folder.old folder.new }
+    ensures blame { Blames result (F.device.failures folder.old) (F.device.failures folder.new) }
     ensures blamed { BlamesOnly is_script_place result }
-    ensures same { F.faithful folder.new → F.contents folder.new ≡ F.contents folder.old }
-    ensures said { F.faithful folder.new
-        → Reports (TextSays Says (F.contents folder.old).files (script_place project.now.1))
-        (F.failures folder.old) (F.failures folder.new) result }
-    ensures parsed { IfOk result (WasParsed F.failures F.may_leave F.allowed Says folder.old folder.new
+    ensures said { F.device.faithful folder.new
+        → Reports (TextSays Says (F.device.contents folder.old).files (script_place project.now.1))
+        (F.device.failures folder.old) (F.device.failures folder.new) result }
+    ensures parsed { IfOk result (WasParsed F.device Says folder.old folder.new
         (script_place project.now.1)) }
 {
     let place = script_place(alloc, project.1.as_ref())?;

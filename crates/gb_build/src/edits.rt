@@ -23,15 +23,16 @@ use std::alloc::Global;
 /// Writes a file, and replaces one that exists there (fault 94 at or under `.gb`; faults 12 and
 /// 13).
 pub fn put<F: Folder>(folder: &mut F, place: &Place, bytes: &Bytes) -> Result<(), Fault>
-    ensures count { F.failures folder.old ≤ F.failures folder.new }
-    ensures back { F.faithful folder.new → F.faithful folder.old }
-    ensures blame { Blames result (F.failures folder.old) (F.failures folder.new) }
-    ensures requests { RequestsOnce F.allowed (Writes place.now bytes.now max_file) folder.old folder.new }
-    ensures tearing { SameTearing (F.may_leave folder.old) (F.may_leave folder.new) }
-    ensures step { F.faithful folder.new → PutStep (F.may_leave folder.old) place.now bytes.now
-        (record { contents = F.contents folder.old; failures = F.failures folder.old })
+    ensures count { F.device.failures folder.old ≤ F.device.failures folder.new }
+    ensures back { F.device.faithful folder.new → F.device.faithful folder.old }
+    ensures blame { Blames result (F.device.failures folder.old) (F.device.failures folder.new) }
+    ensures requests { RequestsOnce F.device.allowed (Writes place.now bytes.now max_file) folder.old
+        folder.new }
+    ensures tearing { SameTearing (F.device.may_leave folder.old) (F.device.may_leave folder.new) }
+    ensures step { F.device.faithful folder.new → PutStep (F.device.may_leave folder.old) place.now bytes.now
+        (record { contents = F.device.contents folder.old; failures = F.device.failures folder.old })
         (edit_answer result)
-        (record { contents = F.contents folder.new; failures = F.failures folder.new }) }
+        (record { contents = F.device.contents folder.new; failures = F.device.failures folder.new }) }
 {
     let at = place.copy()?;
     // No call is made at the tool's own places.
@@ -46,15 +47,15 @@ pub fn put<F: Folder>(folder: &mut F, place: &Place, bytes: &Bytes) -> Result<()
 
 /// Removes a file (fault 94 at or under `.gb`; faults 11 and 12).
 pub fn remove<F: Folder>(folder: &mut F, place: &Place) -> Result<(), Fault>
-    ensures count { F.failures folder.old ≤ F.failures folder.new }
-    ensures back { F.faithful folder.new → F.faithful folder.old }
-    ensures blame { Blames result (F.failures folder.old) (F.failures folder.new) }
-    ensures requests { RequestsOnce F.allowed (Removes place.now) folder.old folder.new }
-    ensures tearing { SameTearing (F.may_leave folder.old) (F.may_leave folder.new) }
-    ensures step { F.faithful folder.new → RemoveStep (F.may_leave folder.old) place.now
-        (record { contents = F.contents folder.old; failures = F.failures folder.old })
+    ensures count { F.device.failures folder.old ≤ F.device.failures folder.new }
+    ensures back { F.device.faithful folder.new → F.device.faithful folder.old }
+    ensures blame { Blames result (F.device.failures folder.old) (F.device.failures folder.new) }
+    ensures requests { RequestsOnce F.device.allowed (Removes place.now) folder.old folder.new }
+    ensures tearing { SameTearing (F.device.may_leave folder.old) (F.device.may_leave folder.new) }
+    ensures step { F.device.faithful folder.new → RemoveStep (F.device.may_leave folder.old) place.now
+        (record { contents = F.device.contents folder.old; failures = F.device.failures folder.old })
         (edit_answer result)
-        (record { contents = F.contents folder.new; failures = F.failures folder.new }) }
+        (record { contents = F.device.contents folder.new; failures = F.device.failures folder.new }) }
 {
     let at = place.copy()?;
     if is_own(place) {
@@ -68,15 +69,14 @@ pub fn remove<F: Folder>(folder: &mut F, place: &Place) -> Result<(), Fault>
 
 /// Removes everything at or under `.gb`.
 pub fn lose<F: Folder>(alloc: Global, folder: &mut F) -> Result<(), Fault>
-    ensures requests { Requests F.failures F.may_leave F.allowed (takes_at is_own) folder.old folder.new }
-    ensures back { F.faithful folder.new → F.faithful folder.old }
-    ensures blame { Blames result (F.failures folder.old) (F.failures folder.new) }
-    ensures elsewhere { F.faithful folder.new
-        → ChangesOnly is_own (F.contents folder.old) (F.contents folder.new) }
-    ensures step { F.faithful folder.new → LossStep (F.may_leave folder.old)
-        (record { contents = F.contents folder.old; failures = F.failures folder.old })
+    ensures requests { Requests F.device (takes_at is_own) folder.old folder.new }
+    ensures blame { Blames result (F.device.failures folder.old) (F.device.failures folder.new) }
+    ensures elsewhere { F.device.faithful folder.new
+        → ChangesOnly is_own (F.device.contents folder.old) (F.device.contents folder.new) }
+    ensures step { F.device.faithful folder.new → LossStep (F.device.may_leave folder.old)
+        (record { contents = F.device.contents folder.old; failures = F.device.failures folder.old })
         (edit_answer result)
-        (record { contents = F.contents folder.new; failures = F.failures folder.new }) }
+        (record { contents = F.device.contents folder.new; failures = F.device.failures folder.new }) }
 {
     let own = own_place(alloc)?;
     let places = listed_at(alloc, folder, &own)?;

@@ -37,23 +37,24 @@ pub fn run_events<A: Actions, T: Transforms, F: Folder, L: TaskListener>(
     events: &[Event],
     listeners: &mut Vec<L>,
 ) -> Result<Vec<Answer>, AllocError>
-    ensures count { F.failures folder.old ≤ F.failures folder.new }
-    ensures back { F.faithful folder.new → F.faithful folder.old }
+    ensures count { F.device.failures folder.old ≤ F.device.failures folder.new }
+    ensures back { F.device.faithful folder.new → F.device.faithful folder.old }
     ensures unbegun { OnErr result (folder.new ≡ folder.old) }
     ensures unnotified { OnErr result (listeners.new ≡ listeners.old) }
-    ensures tearing { SameTearing (F.may_leave folder.old) (F.may_leave folder.new) }
+    ensures tearing { SameTearing (F.device.may_leave folder.old) (F.device.may_leave folder.new) }
     // Over any folder: an edit makes at most one call, at its own place, and a loss removes files in
     // `.gb` alone. A build requests a write or a removal only at or under an output of a task of its
     // plan or at the record of one, and the text of such a record is that of a run of the task. A
     // refused build and a dry run request none.
-    ensures requests { IfOk result (λ answers. EventsRequest F.failures F.may_leave F.allowed
+    ensures requests { IfOk result (λ answers. EventsRequest F.device
         (tables_of T.meanings A.meanings tables.now) events.now answers.items folder.old folder.new) }
     // One answer for each event.
     ensures each { IfOk result (λ answers. length answers.items ≡ length events.now) }
     // Faults are attributed to the device no more often than it failed, while the folder's count of
     // failures is below 2^64 - 1.
     ensures device { IfOk result (λ answers.
-        HasFailed (times_blamed_in_all answers.items) (F.failures folder.old) (F.failures folder.new)) }
+        HasFailed (times_blamed_in_all answers.items) (F.device.failures folder.old)
+        (F.device.failures folder.new)) }
     // Each listener was notified of the builds, one after another.
     ensures heard { IfOk result (λ answers.
         HaveHeardAll answers.items (map L.ear listeners.old.items) (map L.ear listeners.new.items)) }
@@ -61,28 +62,28 @@ pub fn run_events<A: Actions, T: Transforms, F: Folder, L: TaskListener>(
     // task of this plan starts, and has an outcome, as the outline permits.
     ensures outlined { IfOk result (λ answers. AllZip AnswerIsOutlined events.now answers.items) }
     // Whatever fails, a build changes nothing but `.gb` and the build folders of its projects.
-    ensures elsewhere { F.faithful folder.new → IfOk result (λ answers.
+    ensures elsewhere { F.device.faithful folder.new → IfOk result (λ answers.
         AllKeepElsewhere (registers_in (tables_of T.meanings A.meanings tables.now)) events.now answers.items
-        (F.contents folder.old) (F.contents folder.new)) }
+        (F.device.contents folder.old) (F.device.contents folder.new)) }
     // If kinds agree and a stopped write leaves no false record (`IsAssumed`), this is a run of the
     // events by its definition.
-    ensures holds { F.faithful folder.new → IfOk result (λ answers. (kinds : Kinds)
-        → IsAssumed A.meanings tables.now.actions kinds (F.may_leave folder.old)
+    ensures holds { F.device.faithful folder.new → IfOk result (λ answers. (kinds : Kinds)
+        → IsAssumed A.meanings tables.now.actions kinds (F.device.may_leave folder.old)
         → EventsHold
-        (setting_of (tables_of T.meanings A.meanings tables.now) kinds (F.may_leave folder.old))
-        (record { contents = F.contents folder.old; failures = F.failures folder.old })
+        (setting_of (tables_of T.meanings A.meanings tables.now) kinds (F.device.may_leave folder.old))
+        (record { contents = F.device.contents folder.old; failures = F.device.failures folder.old })
         events.now answers.items
-        (record { contents = F.contents folder.new; failures = F.failures folder.new })) }
+        (record { contents = F.device.contents folder.new; failures = F.device.failures folder.new })) }
     // So, if also no two contents share a digest, each event is a step of the definition, and each
     // build in which no task failed leaves what a build from scratch makes, whichever true records
     // the first event starts from.
-    ensures promise { F.faithful folder.new → IfOk result (λ answers. (kinds : Kinds)
-        → IsAssumed A.meanings tables.now.actions kinds (F.may_leave folder.old)
+    ensures promise { F.device.faithful folder.new → IfOk result (λ answers. (kinds : Kinds)
+        → IsAssumed A.meanings tables.now.actions kinds (F.device.may_leave folder.old)
         → PromiseHolds
-        (setting_of (tables_of T.meanings A.meanings tables.now) kinds (F.may_leave folder.old))
-        (record { contents = F.contents folder.old; failures = F.failures folder.old })
+        (setting_of (tables_of T.meanings A.meanings tables.now) kinds (F.device.may_leave folder.old))
+        (record { contents = F.device.contents folder.old; failures = F.device.failures folder.old })
         events.now answers.items
-        (record { contents = F.contents folder.new; failures = F.failures folder.new })) }
+        (record { contents = F.device.contents folder.new; failures = F.device.failures folder.new })) }
 {
     let mut answers = Vec::with_capacity(alloc, events.len())?;
     for event in events.iter() {
@@ -99,25 +100,26 @@ fn take<A: Actions, T: Transforms, F: Folder, L: TaskListener>(
     event: &Event,
     listeners: &mut Vec<L>,
 ) -> Answer
-    ensures count { F.failures folder.old ≤ F.failures folder.new }
-    ensures back { F.faithful folder.new → F.faithful folder.old }
-    ensures tearing { SameTearing (F.may_leave folder.old) (F.may_leave folder.new) }
-    ensures requests { EventRequests F.failures F.may_leave F.allowed
+    ensures count { F.device.failures folder.old ≤ F.device.failures folder.new }
+    ensures back { F.device.faithful folder.new → F.device.faithful folder.old }
+    ensures tearing { SameTearing (F.device.may_leave folder.old) (F.device.may_leave folder.new) }
+    ensures requests { EventRequests F.device
         (tables_of T.meanings A.meanings tables.now) event.now result folder.old folder.new }
-    ensures device { HasFailed (times_blamed result) (F.failures folder.old) (F.failures folder.new) }
+    ensures device { HasFailed (times_blamed result) (F.device.failures folder.old)
+        (F.device.failures folder.new) }
     ensures heard { HaveHeardAll (result ∷ []) (map L.ear listeners.old.items)
         (map L.ear listeners.new.items) }
     ensures outlined { AnswerIsOutlined event.now result }
-    ensures keeps { F.faithful folder.new
+    ensures keeps { F.device.faithful folder.new
         → EventKeeps (registers_in (tables_of T.meanings A.meanings tables.now)) event.now result
-        (F.contents folder.old) (F.contents folder.new) }
-    ensures leads { F.faithful folder.new → (kinds : Kinds)
-        → IsAssumed A.meanings tables.now.actions kinds (F.may_leave folder.old)
+        (F.device.contents folder.old) (F.device.contents folder.new) }
+    ensures leads { F.device.faithful folder.new → (kinds : Kinds)
+        → IsAssumed A.meanings tables.now.actions kinds (F.device.may_leave folder.old)
         → IsTransition
-        (setting_of (tables_of T.meanings A.meanings tables.now) kinds (F.may_leave folder.old))
-        (record { contents = F.contents folder.old; failures = F.failures folder.old })
+        (setting_of (tables_of T.meanings A.meanings tables.now) kinds (F.device.may_leave folder.old))
+        (record { contents = F.device.contents folder.old; failures = F.device.failures folder.old })
         event.now result
-        (record { contents = F.contents folder.new; failures = F.failures folder.new }) }
+        (record { contents = F.device.contents folder.new; failures = F.device.failures folder.new }) }
 {
     match event {
         Event::Put(place, bytes) => edited(put(folder, place, bytes)),

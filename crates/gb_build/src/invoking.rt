@@ -51,15 +51,14 @@ pub fn invoke<A: Actions, T: Transforms, F: Folder, L: TaskListener, P: Printer>
     printer: &mut P,
 ) -> Result<Report, Fault>
     // Over any folder: the calls of the invocation, and what its answer may be.
-    ensures does { IsInvocation F.failures F.may_leave F.allowed
+    ensures does { IsInvocation F.device
         (tables_of T.meanings A.meanings tables.now) invocation.now result folder.old folder.new }
-    ensures back { F.faithful folder.new → F.faithful folder.old }
     // Where contents are known: the promise. Success is as from scratch if kinds agree, a stopped
     // write leaves no false record, the first records are true, and no two contents share a digest.
-    ensures promise { F.faithful folder.new → KeepsPromise (tables_of T.meanings A.meanings tables.now)
-        (F.may_leave folder.old) invocation.now
-        (record { contents = F.contents folder.old; failures = F.failures folder.old }) result
-        (record { contents = F.contents folder.new; failures = F.failures folder.new }) }
+    ensures promise { F.device.faithful folder.new → KeepsPromise (tables_of T.meanings A.meanings tables.now)
+        (F.device.may_leave folder.old) invocation.now
+        (record { contents = F.device.contents folder.old; failures = F.device.failures folder.old }) result
+        (record { contents = F.device.contents folder.new; failures = F.device.failures folder.new }) }
     // Each listener was notified of the start and the end of each started task once, in the order
     // of the report; a notification that it refused is counted. In a dry run there are none.
     ensures heard { IfOk result (λ report.
@@ -88,20 +87,20 @@ fn build_registered<A: Actions, T: Transforms, F: Folder, L: TaskListener, P: Pr
     printer: &mut P,
 ) -> Result<Report, Fault>
     ensures dry_run { IfOk result (λ report. report.dry_run ≡ invocation.now.options.dry_run) }
-    ensures back { F.faithful folder.new → F.faithful folder.old }
+    ensures back { F.device.faithful folder.new → F.device.faithful folder.old }
     ensures heard { IfOk result (λ report.
         HaveHeard report (map L.ear listeners.old.items) (map L.ear listeners.new.items)) }
     ensures unnotified { OnErr result (listeners.new ≡ listeners.old) }
     ensures printed { IfOk result (λ report.
         Prints P.contents P.whole (parts_text report) printer.old printer.new) }
     ensures unprinted { OnErr result (printer.new ≡ printer.old) }
-    ensures count { F.failures folder.old ≤ F.failures folder.new }
+    ensures count { F.device.failures folder.old ≤ F.device.failures folder.new }
     // Faults are attributed to the device no more often than it failed.
     ensures device { HasFailed (times_blamed (answer_of result))
-        (F.failures folder.old) (F.failures folder.new) }
-    ensures tearing { SameTearing (F.may_leave folder.old) (F.may_leave folder.new) }
+        (F.device.failures folder.old) (F.device.failures folder.new) }
+    ensures tearing { SameTearing (F.device.may_leave folder.old) (F.device.may_leave folder.new) }
     ensures requests { let tables = tables_of T.meanings A.meanings configured.now.tables.now in
-        BuildRequests F.failures F.may_leave F.allowed A.meanings configured.now.tables.now.actions
+        BuildRequests F.device A.meanings configured.now.tables.now.actions
         (registry_said tables configured.now.registry) invocation.now result folder.old folder.new }
     ensures buildable { let tables = tables_of T.meanings A.meanings configured.now.tables.now in
         OnOk result (IsRegistry (registry_said tables configured.now.registry)
@@ -112,20 +111,21 @@ fn build_registered<A: Actions, T: Transforms, F: Folder, L: TaskListener, P: Pr
         → IsTrue (is_own place && not invocation.now.options.dry_run)) }
     ensures not_begun { let tables = tables_of T.meanings A.meanings configured.now.tables.now in
         IfErr result (IsNotBegun (registry_said tables configured.now.registry) invocation.now
-        (F.failures folder.old) (F.failures folder.new)) }
+        (F.device.failures folder.old) (F.device.failures folder.new)) }
     ensures dry { invocation.now.options.dry_run ≡ true → folder.new ≡ folder.old }
-    ensures refused { F.faithful folder.new → OnErr result (F.contents folder.new ≡ F.contents folder.old) }
+    ensures refused { F.device.faithful folder.new → OnErr result (F.device.contents folder.new
+        ≡ F.device.contents folder.old) }
     ensures keeps { let tables = tables_of T.meanings A.meanings configured.now.tables.now in
-        F.faithful folder.new → KeepsElsewhere (registry_said tables configured.now.registry)
-        (F.contents folder.old) (F.contents folder.new) }
+        F.device.faithful folder.new → KeepsElsewhere (registry_said tables configured.now.registry)
+        (F.device.contents folder.old) (F.device.contents folder.new) }
     ensures leads { let tables = tables_of T.meanings A.meanings configured.now.tables.now in
-        F.faithful folder.new → (kinds : Kinds)
-        → IsAssumed A.meanings configured.now.tables.now.actions kinds (F.may_leave folder.old)
+        F.device.faithful folder.new → (kinds : Kinds)
+        → IsAssumed A.meanings configured.now.tables.now.actions kinds (F.device.may_leave folder.old)
         → IsTransition (setting_with kinds (λ files given. Ok (registry_said tables configured.now.registry))
-        (F.may_leave folder.old))
-        (record { contents = F.contents folder.old; failures = F.failures folder.old })
+        (F.device.may_leave folder.old))
+        (record { contents = F.device.contents folder.old; failures = F.device.failures folder.old })
         (events.Invoke invocation.now) (answer_of result)
-        (record { contents = F.contents folder.new; failures = F.failures folder.new }) }
+        (record { contents = F.device.contents folder.new; failures = F.device.failures folder.new }) }
 {
     let _scripts = configured.registry.scripts();
     let mut tasks = ScriptTasks::declare(alloc, configured)?;

@@ -23,5 +23,5 @@ pub fn own_files_say_nothing<A: Actions, T: Transforms>()
 /// premise of the law `states_are_one` of `gb_meaning` holds of every run over scripts.
 pub fn scripts_give_one_plan<A: Actions, T: Transforms, F: Folder>()
     ensures { (tables : Tables T.Map T.FlatMap T.Zip T.Test A.Stored) (kinds : Kinds) (folder : F)
-        → HaveOnePlan (setting_of tables kinds (F.may_leave folder)) }
+        → HaveOnePlan (setting_of tables kinds (F.device.may_leave folder)) }
 {}

@@ -1,6 +1,6 @@
 //! Reads the texts of settings and scripts from their files.
 ghost use Rattle.std.specs.Prelude.{◌≡◌, ◌⊎◌, Some, Ok, Err, IfOk, MatchResult, length};
-ghost use Rattle.gb_folder.specs.Calls.{Requests, no_change};
+ghost use Rattle.gb_folder.specs.Calls.{OnlyReads};
 ghost use Rattle.gb_script.specs.Script.{Says, SaysAsSettings};
 ghost use Rattle.gb_store.specs.Changes.{is_at};
 ghost use Rattle.gb_store.specs.Faults.{Blames, BlamesOnly};
@@ -22,16 +22,14 @@ pub fn settings_at<F: Folder>(
     folder: &mut F,
     place: Place,
 ) -> Result<Settings, Fault>
-    ensures requests { Requests F.failures F.may_leave F.allowed no_change folder.old folder.new }
-    ensures back { F.faithful folder.new → F.faithful folder.old }
-    ensures blame { Blames result (F.failures folder.old) (F.failures folder.new) }
+    ensures reads { OnlyReads F.device folder.old folder.new }
+    ensures blame { Blames result (F.device.failures folder.old) (F.device.failures folder.new) }
     ensures blamed { BlamesOnly (is_at place) result }
-    ensures same { F.faithful folder.new → F.contents folder.new ≡ F.contents folder.old }
-    ensures said { F.faithful folder.new
-        → Reports (TextSays SaysAsSettings (F.contents folder.old).files place)
-        (F.failures folder.old) (F.failures folder.new) result }
+    ensures said { F.device.faithful folder.new
+        → Reports (TextSays SaysAsSettings (F.device.contents folder.old).files place)
+        (F.device.failures folder.old) (F.device.failures folder.new) result }
     // Over any folder: a call returned this text.
-    ensures parsed { IfOk result (WasParsed F.failures F.may_leave F.allowed SaysAsSettings folder.old
+    ensures parsed { IfOk result (WasParsed F.device SaysAsSettings folder.old
         folder.new place) }
 {
     match folder.read(alloc, &place, MAX_SCRIPT as u64) {
@@ -45,16 +43,14 @@ pub fn settings_at<F: Folder>(
 
 /// Reads the script at a place. Where no file exists, it is empty.
 pub fn script_at<F: Folder>(alloc: Global, folder: &mut F, place: Place) -> Result<Script, Fault>
-    ensures requests { Requests F.failures F.may_leave F.allowed no_change folder.old folder.new }
-    ensures back { F.faithful folder.new → F.faithful folder.old }
-    ensures blame { Blames result (F.failures folder.old) (F.failures folder.new) }
+    ensures reads { OnlyReads F.device folder.old folder.new }
+    ensures blame { Blames result (F.device.failures folder.old) (F.device.failures folder.new) }
     ensures blamed { BlamesOnly (is_at place) result }
-    ensures same { F.faithful folder.new → F.contents folder.new ≡ F.contents folder.old }
-    ensures said { F.faithful folder.new
-        → Reports (TextSays Says (F.contents folder.old).files place)
-        (F.failures folder.old) (F.failures folder.new) result }
+    ensures said { F.device.faithful folder.new
+        → Reports (TextSays Says (F.device.contents folder.old).files place)
+        (F.device.failures folder.old) (F.device.failures folder.new) result }
     // Over any folder: a call returned this text.
-    ensures parsed { IfOk result (WasParsed F.failures F.may_leave F.allowed Says folder.old folder.new
+    ensures parsed { IfOk result (WasParsed F.device Says folder.old folder.new
         place) }
 {
     match folder.read(alloc, &place, MAX_SCRIPT as u64) {

@@ -47,13 +47,13 @@ pub fn build_requested<A: Actions, F: Folder, L: TaskListener, P: Printer, Ts: T
 ) -> Result<Report, Fault>
     requires { AreBuildable A.meanings table.now (Ts.registry tasks.old) }
     ensures kept { Ts.registry tasks.new ≡ Ts.registry tasks.old }
-    ensures back { F.faithful folder.new → F.faithful folder.old }
+    ensures back { F.device.faithful folder.new → F.device.faithful folder.old }
     ensures dry_run { IfOk result (λ report. report.dry_run ≡ invocation.now.options.dry_run) }
     ensures of_plan { IfOk result (IsReportOf (Ts.registry tasks.old) invocation.now) }
     // Over any folder: which tasks start, and which outcomes are possible for each.
     ensures outlined { IfOk result (IsOutlinedBy (Ts.registry tasks.old) invocation.now) }
     ensures not_begun { IfErr result (IsNotBegun (Ts.registry tasks.old) invocation.now
-        (F.failures folder.old) (F.failures folder.new)) }
+        (F.device.failures folder.old) (F.device.failures folder.new)) }
     ensures heard { IfOk result (λ report.
         HaveHeard report (map L.ear listeners.old.items) (map L.ear listeners.new.items)) }
     ensures unnotified { OnErr result (listeners.new ≡ listeners.old) }
@@ -61,40 +61,43 @@ pub fn build_requested<A: Actions, F: Folder, L: TaskListener, P: Printer, Ts: T
     ensures printed { IfOk result (λ report.
         Prints P.contents P.whole (parts_text report) printer.old printer.new) }
     ensures unprinted { OnErr result (printer.new ≡ printer.old) }
-    ensures count { F.failures folder.old ≤ F.failures folder.new }
+    ensures count { F.device.failures folder.old ≤ F.device.failures folder.new }
     // Faults are attributed to the device no more often than it failed, if no script's fault is
     // attributed to it.
     ensures device { NoneBlameDevice (Ts.registry tasks.old)
-        → HasFailed (times_blamed (answer_of result)) (F.failures folder.old) (F.failures folder.new) }
-    ensures tearing { SameTearing (F.may_leave folder.old) (F.may_leave folder.new) }
+        → HasFailed (times_blamed (answer_of result)) (F.device.failures folder.old)
+        (F.device.failures folder.new) }
+    ensures tearing { SameTearing (F.device.may_leave folder.old) (F.device.may_leave folder.new) }
     // Over any folder: which changes it requests, and which records it stores.
-    ensures requests { BuildRequests F.failures F.may_leave F.allowed A.meanings table.now
+    ensures requests { BuildRequests F.device A.meanings table.now
         (Ts.registry tasks.old)
         invocation.now result folder.old folder.new }
     ensures dry { invocation.now.options.dry_run ≡ true → folder.new ≡ folder.old }
-    ensures refused { F.faithful folder.new → OnErr result (F.contents folder.new ≡ F.contents folder.old) }
+    ensures refused { F.device.faithful folder.new → OnErr result (F.device.contents folder.new
+        ≡ F.device.contents folder.old) }
     // Nothing changes but `.gb` and the build folders of the registered projects.
-    ensures elsewhere { F.faithful folder.new → ChangesOnly (is_of_build (Ts.registry tasks.old).projects)
-        (F.contents folder.old) (F.contents folder.new) }
+    ensures elsewhere { F.device.faithful folder.new → ChangesOnly (is_of_build
+        (Ts.registry tasks.old).projects)
+        (F.device.contents folder.old) (F.device.contents folder.new) }
     // It may follow any sequence of events: it is a step of the folder's history, if its scripts
     // register the tasks that are registered here.
-    ensures leads { F.faithful folder.new → (kinds : Kinds) (registry_of : Registering)
-        → IsAssumed A.meanings table.now kinds (F.may_leave folder.old)
-        → registry_of (outside (F.contents folder.old)).files invocation.now.properties
+    ensures leads { F.device.faithful folder.new → (kinds : Kinds) (registry_of : Registering)
+        → IsAssumed A.meanings table.now kinds (F.device.may_leave folder.old)
+        → registry_of (outside (F.device.contents folder.old)).files invocation.now.properties
         ≡ Ok (Ts.registry tasks.old)
-        → IsTransition (setting_with kinds registry_of (F.may_leave folder.old))
-        (record { contents = F.contents folder.old; failures = F.failures folder.old })
+        → IsTransition (setting_with kinds registry_of (F.device.may_leave folder.old))
+        (record { contents = F.device.contents folder.old; failures = F.device.failures folder.old })
         (events.Invoke invocation.now) (answer_of result)
-        (record { contents = F.contents folder.new; failures = F.failures folder.new }) }
+        (record { contents = F.device.contents folder.new; failures = F.device.failures folder.new }) }
     // This is one invocation by its definition.
-    ensures holds { F.faithful folder.new → (kinds : Kinds) (registry_of : Registering)
-        → IsAssumed A.meanings table.now kinds (F.may_leave folder.old)
-        → registry_of (outside (F.contents folder.old)).files invocation.now.properties
+    ensures holds { F.device.faithful folder.new → (kinds : Kinds) (registry_of : Registering)
+        → IsAssumed A.meanings table.now kinds (F.device.may_leave folder.old)
+        → registry_of (outside (F.device.contents folder.old)).files invocation.now.properties
         ≡ Ok (Ts.registry tasks.old)
-        → InvocationHolds (setting_with kinds registry_of (F.may_leave folder.old))
-        (record { contents = F.contents folder.old; failures = F.failures folder.old })
+        → InvocationHolds (setting_with kinds registry_of (F.device.may_leave folder.old))
+        (record { contents = F.device.contents folder.old; failures = F.device.failures folder.old })
         invocation.now result
-        (record { contents = F.contents folder.new; failures = F.failures folder.new }) }
+        (record { contents = F.device.contents folder.new; failures = F.device.failures folder.new }) }
 {
     let requested = invocation.requested.as_slice();
     let excluded = invocation.excluded.as_slice();

@@ -1,6 +1,6 @@
 //! Reads a folder: its settings, and the scripts of their projects.
 ghost use Rattle.std.specs.Prelude.{◌≡◌, ◌⊎◌, Ok, Err, IfOk, MatchResult};
-ghost use Rattle.gb_folder.specs.Calls.{Requests, no_change};
+ghost use Rattle.gb_folder.specs.Calls.{OnlyReads};
 ghost use Rattle.gb_registry.specs.Tables.{tables_of};
 ghost use Rattle.gb_script.specs.Script.{SaysAsSettings};
 ghost use Rattle.gb_store.specs.Changes.{is_at};
@@ -40,21 +40,19 @@ pub fn read_registry<'a, A: Actions, T: Transforms, F: Folder>(
     tables: &'a Tables<A, T>,
     given: Vec<(Name, Text)>,
 ) -> Result<Configured<'a, A, T>, Fault>
-    ensures requests { Requests F.failures F.may_leave F.allowed no_change folder.old folder.new }
-    ensures back { F.faithful folder.new → F.faithful folder.old }
-    ensures blame { Blames result (F.failures folder.old) (F.failures folder.new) }
+    ensures reads { OnlyReads F.device folder.old folder.new }
+    ensures blame { Blames result (F.device.failures folder.old) (F.device.failures folder.new) }
     ensures blamed { BlamesOnly is_script_place result }
-    ensures same { F.faithful folder.new → F.contents folder.new ≡ F.contents folder.old }
     ensures tables { IfOk result (λ configured. configured.tables.now ≡ tables.now) }
     // Where contents are known, the result is what the scripts in them say, or a fault of the machine.
-    ensures said { F.faithful folder.new → MatchResult result
+    ensures said { F.device.faithful folder.new → MatchResult result
         (λ configured. FolderSays (tables_of T.meanings A.meanings tables.now)
-        (F.contents folder.old).files given.items (Ok configured.registry))
-        (λ fault. IsOfMachine (F.failures folder.old) (F.failures folder.new) fault
+        (F.device.contents folder.old).files given.items (Ok configured.registry))
+        (λ fault. IsOfMachine (F.device.failures folder.old) (F.device.failures folder.new) fault
         ⊎ FolderSays (tables_of T.meanings A.meanings tables.now)
-        (F.contents folder.old).files given.items (Err fault)) }
+        (F.device.contents folder.old).files given.items (Err fault)) }
     // Over any folder: calls returned the texts of what is declared.
-    ensures declared { IfOk result (λ configured. IsDeclared F.failures F.may_leave F.allowed
+    ensures declared { IfOk result (λ configured. IsDeclared F.device
         (tables_of T.meanings A.meanings tables.now) given.items folder.old folder.new
         configured.registry) }
 {
@@ -66,16 +64,14 @@ pub fn read_registry<'a, A: Actions, T: Transforms, F: Folder>(
 
 /// The settings of a folder.
 pub fn read_settings_of<F: Folder>(alloc: Global, folder: &mut F) -> Result<Settings, Fault>
-    ensures requests { Requests F.failures F.may_leave F.allowed no_change folder.old folder.new }
-    ensures back { F.faithful folder.new → F.faithful folder.old }
-    ensures blame { Blames result (F.failures folder.old) (F.failures folder.new) }
+    ensures reads { OnlyReads F.device folder.old folder.new }
+    ensures blame { Blames result (F.device.failures folder.old) (F.device.failures folder.new) }
     ensures blamed { BlamesOnly (is_at settings_place) result }
-    ensures same { F.faithful folder.new → F.contents folder.new ≡ F.contents folder.old }
     // Where contents are known, the result is what the file says, or a fault of the machine.
-    ensures said { F.faithful folder.new
-        → Reports (TextSays SaysAsSettings (F.contents folder.old).files settings_place)
-        (F.failures folder.old) (F.failures folder.new) result }
-    ensures parsed { IfOk result (WasParsed F.failures F.may_leave F.allowed SaysAsSettings folder.old
+    ensures said { F.device.faithful folder.new
+        → Reports (TextSays SaysAsSettings (F.device.contents folder.old).files settings_place)
+        (F.device.failures folder.old) (F.device.failures folder.new) result }
+    ensures parsed { IfOk result (WasParsed F.device SaysAsSettings folder.old
         folder.new settings_place) }
 {
     let place = settings_place(alloc)?;

@@ -32,28 +32,18 @@ impl Disturbed {
 
 impl Folder for Disturbed {
     ghost use Rattle.std.specs.Prelude.{[], refl, ⊤};
-    ghost use Rattle.gb_folder.specs.Device.{device_of};
 
-    ghost failures = { λ _. 0 };
-
-    ghost faithful = { λ _. ⊥ };
-
-    ghost contents = { λ _. record { files = []; special = [] } };
-
-    ghost may_leave = { λ _ _ _ _ _. ⊤ };
-
-    ghost allowed = { λ _ _ _. ⊤ };
-
-    ghost device = { device_of (λ _. 0) (λ _ _ _ _ _. ⊤) (λ _ _ _. ⊤) (λ _. ⊥)
-        (λ _. record { files = []; special = [] }) };
+    ghost device = { record {
+      failures = λ _. 0;
+      may_leave = λ _ _ _ _ _. ⊤;
+      allowed = λ _ _ _. ⊤;
+      faithful = λ _. ⊥;
+      contents = λ _. record { files = []; special = [] };
+    } };
 
     ghost sound = { λ _. record { in_order = refl; none_blocked = refl } };
 
     ghost placed = { λ _. refl };
-
-    ghost called = { λ _ _ _ is. is };
-
-    ghost said = { λ _ _ _ is. is };
 
     fn list(&mut self, alloc: Global, root: &Place) -> Result<Vec<Place>, FolderFault> {
         self.disturb();

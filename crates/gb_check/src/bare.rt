@@ -2,7 +2,7 @@
 ghost use Rattle.std.specs.Prelude.{◌≡◌, ◌∷◌, ◌++◌, ◌&&◌, [], IfErr, IfOk, OnOk, not};
 ghost use Rattle.std.specs.List.{flat_map, list_any};
 ghost use Rattle.gb_core.specs.Place.{overlaps};
-ghost use Rattle.gb_folder.specs.Calls.{Requests, no_change};
+ghost use Rattle.gb_folder.specs.Calls.{OnlyReads};
 ghost use Rattle.gb_folder.specs.Files.{is_empty, is_special_under, places_under};
 ghost use Rattle.gb_store.specs.Faults.{IsOfMachine};
 ghost use Rattle.gb_check.specs.Findings.{warning};
@@ -26,13 +26,11 @@ pub(crate) fn warn_bare<F: Folder>(
     tasks: &[TaskDeclaration],
     sites: &[Site],
 ) -> Result<Vec<Finding>, Fault>
-    ensures requests { Requests F.failures F.may_leave F.allowed no_change folder.old folder.new }
-    ensures back { F.faithful folder.new → F.faithful folder.old }
-    ensures same { F.faithful folder.new → F.contents folder.new ≡ F.contents folder.old }
-    ensures found { F.faithful folder.new → IfOk result (λ found. found.items
-        ≡ bare_roots sites.now (F.contents folder.old) tasks.now) }
-    ensures err { F.faithful folder.new
-        → IfErr result (IsOfMachine (F.failures folder.old) (F.failures folder.new)) }
+    ensures reads { OnlyReads F.device folder.old folder.new }
+    ensures found { F.device.faithful folder.new → IfOk result (λ found. found.items
+        ≡ bare_roots sites.now (F.device.contents folder.old) tasks.now) }
+    ensures err { F.device.faithful folder.new
+        → IfErr result (IsOfMachine (F.device.failures folder.old) (F.device.failures folder.new)) }
 {
     let outputs = all_outputs(alloc, tasks)?;
     let roots = all_roots(alloc, tasks)?;
@@ -47,13 +45,11 @@ fn warn_each<F: Folder>(
     outputs: &[Place],
     roots: &[Rooted],
 ) -> Result<Vec<Finding>, Fault>
-    ensures requests { Requests F.failures F.may_leave F.allowed no_change folder.old folder.new }
-    ensures back { F.faithful folder.new → F.faithful folder.old }
-    ensures same { F.faithful folder.new → F.contents folder.new ≡ F.contents folder.old }
-    ensures found { F.faithful folder.new → IfOk result (λ found. found.items
-        ≡ flat_map (bare_root sites.now (F.contents folder.old) outputs.now) roots.now) }
-    ensures err { F.faithful folder.new
-        → IfErr result (IsOfMachine (F.failures folder.old) (F.failures folder.new)) }
+    ensures reads { OnlyReads F.device folder.old folder.new }
+    ensures found { F.device.faithful folder.new → IfOk result (λ found. found.items
+        ≡ flat_map (bare_root sites.now (F.device.contents folder.old) outputs.now) roots.now) }
+    ensures err { F.device.faithful folder.new
+        → IfErr result (IsOfMachine (F.device.failures folder.old) (F.device.failures folder.new)) }
 {
     let mut found = Vec::new(alloc);
     for rooted in roots {
@@ -70,13 +66,11 @@ fn push_rooted<F: Folder>(
     outputs: &[Place],
     rooted: &Rooted,
 ) -> Result<(), Fault>
-    ensures requests { Requests F.failures F.may_leave F.allowed no_change folder.old folder.new }
-    ensures back { F.faithful folder.new → F.faithful folder.old }
-    ensures same { F.faithful folder.new → F.contents folder.new ≡ F.contents folder.old }
-    ensures found { F.faithful folder.new → OnOk result (found.new.items
-        ≡ found.old.items ++ bare_root sites.now (F.contents folder.old) outputs.now rooted.now) }
-    ensures err { F.faithful folder.new
-        → IfErr result (IsOfMachine (F.failures folder.old) (F.failures folder.new)) }
+    ensures reads { OnlyReads F.device folder.old folder.new }
+    ensures found { F.device.faithful folder.new → OnOk result (found.new.items
+        ≡ found.old.items ++ bare_root sites.now (F.device.contents folder.old) outputs.now rooted.now) }
+    ensures err { F.device.faithful folder.new
+        → IfErr result (IsOfMachine (F.device.failures folder.old) (F.device.failures folder.new)) }
 {
     if is_bare(alloc, folder, outputs, &rooted.root)? {
         push_bare(found, sites, rooted)?;
@@ -103,13 +97,11 @@ fn is_bare<F: Folder>(
     outputs: &[Place],
     root: &Place,
 ) -> Result<bool, Fault>
-    ensures requests { Requests F.failures F.may_leave F.allowed no_change folder.old folder.new }
-    ensures back { F.faithful folder.new → F.faithful folder.old }
-    ensures same { F.faithful folder.new → F.contents folder.new ≡ F.contents folder.old }
-    ensures bare { F.faithful folder.new → IfOk result (λ is.
-        is ≡ is_bare (F.contents folder.old) outputs.now root.now) }
-    ensures err { F.faithful folder.new
-        → IfErr result (IsOfMachine (F.failures folder.old) (F.failures folder.new)) }
+    ensures reads { OnlyReads F.device folder.old folder.new }
+    ensures bare { F.device.faithful folder.new → IfOk result (λ is.
+        is ≡ is_bare (F.device.contents folder.old) outputs.now root.now) }
+    ensures err { F.device.faithful folder.new
+        → IfErr result (IsOfMachine (F.device.failures folder.old) (F.device.failures folder.new)) }
 {
     if is_made(outputs, root) {
         return Ok(false);
@@ -124,14 +116,12 @@ fn is_made(outputs: &[Place], root: &Place) -> bool
 }
 
 fn has_nothing<F: Folder>(alloc: Global, folder: &mut F, root: &Place) -> Result<bool, Fault>
-    ensures requests { Requests F.failures F.may_leave F.allowed no_change folder.old folder.new }
-    ensures back { F.faithful folder.new → F.faithful folder.old }
-    ensures same { F.faithful folder.new → F.contents folder.new ≡ F.contents folder.old }
-    ensures nothing { F.faithful folder.new → IfOk result (λ is. is
-        ≡ (is_empty (places_under (F.contents folder.old).files root.now)
-        && not (is_special_under (F.contents folder.old) root.now))) }
-    ensures err { F.faithful folder.new
-        → IfErr result (IsOfMachine (F.failures folder.old) (F.failures folder.new)) }
+    ensures reads { OnlyReads F.device folder.old folder.new }
+    ensures nothing { F.device.faithful folder.new → IfOk result (λ is. is
+        ≡ (is_empty (places_under (F.device.contents folder.old).files root.now)
+        && not (is_special_under (F.device.contents folder.old) root.now))) }
+    ensures err { F.device.faithful folder.new
+        → IfErr result (IsOfMachine (F.device.failures folder.old) (F.device.failures folder.new)) }
 {
     match folder.list(alloc, root) {
         Ok(places) => Ok(places.is_empty()),

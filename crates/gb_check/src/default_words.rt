@@ -2,7 +2,7 @@
 ghost use Rattle.std.specs.Prelude.{◌≡◌, ◌≢◌, ◌⊎◌, ◌∷◌, ◌++◌, [], IfErr, IfOk, List, OnOk, find, map};
 ghost use Rattle.std.specs.List.{flat_map};
 ghost use Rattle.std.specs.Option.{option_copied};
-ghost use Rattle.gb_folder.specs.Calls.{Requests, no_change};
+ghost use Rattle.gb_folder.specs.Calls.{OnlyReads};
 ghost use Rattle.gb_plan.specs.Refusal.{word_faults};
 ghost use Rattle.gb_registry.specs.SoFar.{scripts_in};
 ghost use Rattle.gb_store.specs.Faults.{IsOfMachine};
@@ -31,14 +31,12 @@ pub(crate) fn check_default_words<Ts: Tasks, F: Folder>(
     tasks: &Ts,
     scripts: &[Scripted],
 ) -> Result<Vec<Finding>, Fault>
-    ensures requests { Requests F.failures F.may_leave F.allowed no_change folder.old folder.new }
-    ensures back { F.faithful folder.new → F.faithful folder.old }
-    ensures same { F.faithful folder.new → F.contents folder.new ≡ F.contents folder.old }
-    ensures found { IfOk result (λ found. AreDefaultsFound (F.faithful folder.new)
-        (F.contents folder.old).files (scripts_in scripts.now) (Ts.registry tasks.now) found.items) }
-    ensures err { F.faithful folder.new → IfErr result (λ fault.
-        IsOfMachine (F.failures folder.old) (F.failures folder.new) fault
-        ⊎ IsUnread (F.contents folder.old).files (scripts_in scripts.now) fault) }
+    ensures reads { OnlyReads F.device folder.old folder.new }
+    ensures found { IfOk result (λ found. AreDefaultsFound (F.device.faithful folder.new)
+        (F.device.contents folder.old).files (scripts_in scripts.now) (Ts.registry tasks.now) found.items) }
+    ensures err { F.device.faithful folder.new → IfErr result (λ fault.
+        IsOfMachine (F.device.failures folder.old) (F.device.failures folder.new) fault
+        ⊎ IsUnread (F.device.contents folder.old).files (scripts_in scripts.now) fault) }
 {
     let faults = faults_of(alloc, tasks, tasks.default_tasks())?;
     let found = find_words(alloc, folder, scripts, faults.as_slice());
@@ -53,14 +51,13 @@ fn find_words<F: Folder>(
     scripts: &[Scripted],
     faults: &[Fault],
 ) -> Result<Vec<Finding>, Fault>
-    ensures requests { Requests F.failures F.may_leave F.allowed no_change folder.old folder.new }
-    ensures back { F.faithful folder.new → F.faithful folder.old }
-    ensures same { F.faithful folder.new → F.contents folder.new ≡ F.contents folder.old }
-    ensures found { IfOk result (λ found. AreAtDefaults (F.faithful folder.new) (F.contents folder.old).files
+    ensures reads { OnlyReads F.device folder.old folder.new }
+    ensures found { IfOk result (λ found. AreAtDefaults (F.device.faithful folder.new)
+        (F.device.contents folder.old).files
         (scripts_in scripts.now) faults.now found.items) }
-    ensures err { F.faithful folder.new → IfErr result (λ fault.
-        IsOfMachine (F.failures folder.old) (F.failures folder.new) fault
-        ⊎ IsUnread (F.contents folder.old).files (scripts_in scripts.now) fault) }
+    ensures err { F.device.faithful folder.new → IfErr result (λ fault.
+        IsOfMachine (F.device.failures folder.old) (F.device.failures folder.new) fault
+        ⊎ IsUnread (F.device.contents folder.old).files (scripts_in scripts.now) fault) }
 {
     if faults.is_empty() {
         return Ok(Vec::new(alloc));
@@ -121,14 +118,13 @@ fn defaults_spot<F: Folder>(
     folder: &mut F,
     scripts: &[Scripted],
 ) -> Result<Spot, Fault>
-    ensures requests { Requests F.failures F.may_leave F.allowed no_change folder.old folder.new }
-    ensures back { F.faithful folder.new → F.faithful folder.old }
-    ensures same { F.faithful folder.new → F.contents folder.new ≡ F.contents folder.old }
+    ensures reads { OnlyReads F.device folder.old folder.new }
     ensures spot { IfOk result
-        (IsDefaultsSpot (F.faithful folder.new) (F.contents folder.old).files (scripts_in scripts.now)) }
-    ensures err { F.faithful folder.new → IfErr result (λ fault.
-        IsOfMachine (F.failures folder.old) (F.failures folder.new) fault
-        ⊎ IsUnread (F.contents folder.old).files (scripts_in scripts.now) fault) }
+        (IsDefaultsSpot (F.device.faithful folder.new) (F.device.contents folder.old).files
+        (scripts_in scripts.now)) }
+    ensures err { F.device.faithful folder.new → IfErr result (λ fault.
+        IsOfMachine (F.device.failures folder.old) (F.device.failures folder.new) fault
+        ⊎ IsUnread (F.device.contents folder.old).files (scripts_in scripts.now) fault) }
 {
     match root_of(scripts) {
         Some(root) => line_in(alloc, folder, root),
@@ -148,16 +144,14 @@ fn root_of(scripts: &[Scripted]) -> Option<&Scripted>
 
 /// The line of the last `defaultTasks` of a script; 1 if there is none.
 fn line_in<F: Folder>(alloc: Global, folder: &mut F, scripted: &Scripted) -> Result<Spot, Fault>
-    ensures requests { Requests F.failures F.may_leave F.allowed no_change folder.old folder.new }
-    ensures back { F.faithful folder.new → F.faithful folder.old }
-    ensures same { F.faithful folder.new → F.contents folder.new ≡ F.contents folder.old }
-    ensures spot { IfOk result (λ spot. (lines : List Lines) × (F.faithful folder.new
-        → AreLinesAt (F.contents folder.old).files (script_of_project scripted.now.project) lines)
+    ensures reads { OnlyReads F.device folder.old folder.new }
+    ensures spot { IfOk result (λ spot. (lines : List Lines) × (F.device.faithful folder.new
+        → AreLinesAt (F.device.contents folder.old).files (script_of_project scripted.now.project) lines)
         × (spot ≡ Spot.Line (script_of_project scripted.now.project)
         (defaults_line 1 scripted.now.script lines))) }
-    ensures err { F.faithful folder.new → IfErr result (λ fault.
-        IsOfMachine (F.failures folder.old) (F.failures folder.new) fault
-        ⊎ HasTextFault (F.contents folder.old).files (script_of_project scripted.now.project) fault) }
+    ensures err { F.device.faithful folder.new → IfErr result (λ fault.
+        IsOfMachine (F.device.failures folder.old) (F.device.failures folder.new) fault
+        ⊎ HasTextFault (F.device.contents folder.old).files (script_of_project scripted.now.project) fault) }
 {
     let script = script_of_project(alloc, &scripted.project)?;
     let lines = lines_at(alloc, folder, &script)?;

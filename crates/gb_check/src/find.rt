@@ -1,6 +1,6 @@
 //! The faults of registered tasks, and warnings.
 ghost use Rattle.std.specs.Prelude.{◌≡◌, ◌⊎◌, IfErr, IfOk};
-ghost use Rattle.gb_folder.specs.Calls.{Requests, no_change};
+ghost use Rattle.gb_folder.specs.Calls.{OnlyReads};
 ghost use Rattle.gb_plan.specs.Graph.{paths_of};
 ghost use Rattle.gb_registry.specs.SoFar.{scripts_in};
 ghost use Rattle.gb_registry.specs.Tables.{tables_of};
@@ -52,14 +52,13 @@ pub fn find<A: Actions, T: Transforms, Ts: Tasks, F: Folder>(
     scripts: &[Scripted],
 ) -> Result<Findings, Fault>
     requires { paths.now ≡ paths_of (Ts.registry tasks.old) }
-    ensures requests { Requests F.failures F.may_leave F.allowed no_change folder.old folder.new }
-    ensures back { F.faithful folder.new → F.faithful folder.old }
-    ensures same { F.faithful folder.new → F.contents folder.new ≡ F.contents folder.old }
+    ensures reads { OnlyReads F.device folder.old folder.new }
     ensures findings { IfOk result (AreFindings (tables_of T.meanings A.meanings tables.now) known.now
-        (F.faithful folder.new) (F.contents folder.old) (Ts.registry tasks.old) (scripts_in scripts.now)) }
-    ensures err { F.faithful folder.new → IfErr result (λ fault.
-        IsOfMachine (F.failures folder.old) (F.failures folder.new) fault
-        ⊎ IsUnread (F.contents folder.old).files (scripts_in scripts.now) fault) }
+        (F.device.faithful folder.new) (F.device.contents folder.old) (Ts.registry tasks.old)
+        (scripts_in scripts.now)) }
+    ensures err { F.device.faithful folder.new → IfErr result (λ fault.
+        IsOfMachine (F.device.failures folder.old) (F.device.failures folder.new) fault
+        ⊎ IsUnread (F.device.contents folder.old).files (scripts_in scripts.now) fault) }
 {
     let (sites, marks) = read_sites(alloc, folder, tables, known, scripts)?;
     let faults = find_faults(
@@ -87,14 +86,13 @@ fn find_faults<Ts: Tasks, F: Folder>(
 ) -> Result<Vec<Finding>, Fault>
     requires { paths.now ≡ paths_of (Ts.registry tasks.old) }
     ensures kept { Ts.registry tasks.new ≡ Ts.registry tasks.old }
-    ensures back { F.faithful folder.new → F.faithful folder.old }
-    ensures requests { Requests F.failures F.may_leave F.allowed no_change folder.old folder.new }
-    ensures same { F.faithful folder.new → F.contents folder.new ≡ F.contents folder.old }
-    ensures faults { IfOk result (λ found. AreFaults (F.faithful folder.new) (F.contents folder.old).files
+    ensures reads { OnlyReads F.device folder.old folder.new }
+    ensures faults { IfOk result (λ found. AreFaults (F.device.faithful folder.new)
+        (F.device.contents folder.old).files
         sites.now marks.now (Ts.registry tasks.old) (scripts_in scripts.now) found.items) }
-    ensures err { F.faithful folder.new → IfErr result (λ fault.
-        IsOfMachine (F.failures folder.old) (F.failures folder.new) fault
-        ⊎ IsUnread (F.contents folder.old).files (scripts_in scripts.now) fault) }
+    ensures err { F.device.faithful folder.new → IfErr result (λ fault.
+        IsOfMachine (F.device.failures folder.old) (F.device.failures folder.new) fault
+        ⊎ IsUnread (F.device.contents folder.old).files (scripts_in scripts.now) fault) }
 {
     let mut found = check_default_words(alloc, folder, tasks, scripts)?;
     let mut of_tasks = check(alloc, tasks, paths, sites, marks)?;

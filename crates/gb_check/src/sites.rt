@@ -1,10 +1,10 @@
 //! Where scripts register tasks, and the marks of their clauses.
-ghost use Rattle.std.specs.Prelude.{◌≡◌, ◌⊎◌, ℕ, [], ◌∷◌, ◌++◌, Err, IfErr, IfOk, List, OnOk};
+ghost use Rattle.std.specs.Prelude.{◌≡◌, ◌⊎◌, [], ◌∷◌, ◌++◌, Err, IfErr, IfOk, List, OnOk};
 ghost use Rattle.std.specs.Prelude.{codes, false};
 ghost use Rattle.std.specs.Option.{option_copied};
 ghost use Rattle.gb_core.specs.Path.{task_in};
 ghost use Rattle.gb_core.specs.Place.{is_place, joined};
-ghost use Rattle.gb_folder.specs.Calls.{Requests, no_change};
+ghost use Rattle.gb_folder.specs.Calls.{OnlyReads};
 ghost use Rattle.gb_declare.specs.Declaring.{scope_in};
 ghost use Rattle.gb_registry.specs.SoFar.{scripts_in};
 ghost use Rattle.gb_registry.specs.Tables.{tables_of};
@@ -59,15 +59,13 @@ pub(crate) fn read_sites<A: Actions, T: Transforms, F: Folder>(
     names: &Names<'_>,
     scripts: &[Scripted],
 ) -> Result<(Vec<Site>, Vec<ClauseMark>), Fault>
-    ensures requests { Requests F.failures F.may_leave F.allowed no_change folder.old folder.new }
-    ensures back { F.faithful folder.new → F.faithful folder.old }
-    ensures same { F.faithful folder.new → F.contents folder.new ≡ F.contents folder.old }
+    ensures reads { OnlyReads F.device folder.old folder.new }
     ensures sites { IfOk result (λ read.
-        AreSites (tables_of T.meanings A.meanings tables.now) names.now (F.faithful folder.new)
-        (F.contents folder.old).files (scripts_in scripts.now) read.0.items read.1.items) }
-    ensures err { F.faithful folder.new → IfErr result (λ fault.
-        IsOfMachine (F.failures folder.old) (F.failures folder.new) fault
-        ⊎ IsUnread (F.contents folder.old).files (scripts_in scripts.now) fault) }
+        AreSites (tables_of T.meanings A.meanings tables.now) names.now (F.device.faithful folder.new)
+        (F.device.contents folder.old).files (scripts_in scripts.now) read.0.items read.1.items) }
+    ensures err { F.device.faithful folder.new → IfErr result (λ fault.
+        IsOfMachine (F.device.failures folder.old) (F.device.failures folder.new) fault
+        ⊎ IsUnread (F.device.contents folder.old).files (scripts_in scripts.now) fault) }
 {
     let mut sites = Vec::new(alloc);
     let mut marks = Vec::new(alloc);
@@ -89,20 +87,18 @@ fn push_script<A: Actions, T: Transforms, F: Folder>(
     marks: &mut Vec<ClauseMark>,
     scripted: &Scripted,
 ) -> Result<(), Fault>
-    ensures requests { Requests F.failures F.may_leave F.allowed no_change folder.old folder.new }
-    ensures back { F.faithful folder.new → F.faithful folder.old }
-    ensures same { F.faithful folder.new → F.contents folder.new ≡ F.contents folder.old }
+    ensures reads { OnlyReads F.device folder.old folder.new }
     ensures sites { OnOk result ((lines : List Lines)
-        × (F.faithful folder.new
-        → AreLinesAt (F.contents folder.old).files (script_of_project scripted.now.project) lines)
+        × (F.device.faithful folder.new
+        → AreLinesAt (F.device.contents folder.old).files (script_of_project scripted.now.project) lines)
         × (sites.new.items ≡ sites.old.items ++ sites_of scripted.now.project
         (script_of_project scripted.now.project) scripted.now.script lines)
         × (marks.new.items ≡ marks.old.items ++ marks_of (tables_of T.meanings A.meanings tables.now)
         (script_scope names.now scripted.now.project scripted.now.script)
         scripted.now.project scripted.now.script lines)) }
-    ensures err { F.faithful folder.new → IfErr result (λ fault.
-        IsOfMachine (F.failures folder.old) (F.failures folder.new) fault
-        ⊎ HasTextFault (F.contents folder.old).files (script_of_project scripted.now.project) fault) }
+    ensures err { F.device.faithful folder.new → IfErr result (λ fault.
+        IsOfMachine (F.device.failures folder.old) (F.device.failures folder.new) fault
+        ⊎ HasTextFault (F.device.contents folder.old).files (script_of_project scripted.now.project) fault) }
 {
     let script = script_of_project(alloc, &scripted.project)?;
     let lines = lines_at(alloc, folder, &script)?;
@@ -145,14 +141,12 @@ pub(crate) fn lines_at<F: Folder>(
     folder: &mut F,
     place: &Place,
 ) -> Result<Vec<StatementLines>, Fault>
-    ensures requests { Requests F.failures F.may_leave F.allowed no_change folder.old folder.new }
-    ensures back { F.faithful folder.new → F.faithful folder.old }
-    ensures same { F.faithful folder.new → F.contents folder.new ≡ F.contents folder.old }
-    ensures lines { F.faithful folder.new → IfOk result (λ lines.
-        AreLinesAt (F.contents folder.old).files place.now lines.items) }
-    ensures err { F.faithful folder.new → IfErr result (λ fault.
-        IsOfMachine (F.failures folder.old) (F.failures folder.new) fault
-        ⊎ HasTextFault (F.contents folder.old).files place.now fault) }
+    ensures reads { OnlyReads F.device folder.old folder.new }
+    ensures lines { F.device.faithful folder.new → IfOk result (λ lines.
+        AreLinesAt (F.device.contents folder.old).files place.now lines.items) }
+    ensures err { F.device.faithful folder.new → IfErr result (λ fault.
+        IsOfMachine (F.device.failures folder.old) (F.device.failures folder.new) fault
+        ⊎ HasTextFault (F.device.contents folder.old).files place.now fault) }
 {
     match folder.read(alloc, place, MAX_SCRIPT as u64) {
         Ok(bytes) => lines_in(alloc, bytes.as_slice(), place),

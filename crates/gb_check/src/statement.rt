@@ -1,6 +1,6 @@
 //! Where a statement of a script is.
 ghost use Rattle.std.specs.Prelude.{◌≡◌, ◌⊎◌, IfErr, IfOk};
-ghost use Rattle.gb_folder.specs.Calls.{Requests, no_change};
+ghost use Rattle.gb_folder.specs.Calls.{OnlyReads};
 ghost use Rattle.gb_store.specs.Faults.{IsOfMachine};
 ghost use Rattle.gb_check.specs.Sites.{HasTextFault, script_of_project};
 ghost use Rattle.gb_check.specs.Statement.{IsStatementSpot, line_of_statement};
@@ -22,14 +22,13 @@ pub fn statement_spot<F: Folder>(
     project: &Project,
     number: usize,
 ) -> Result<Spot, Fault>
-    ensures requests { Requests F.failures F.may_leave F.allowed no_change folder.old folder.new }
-    ensures back { F.faithful folder.new → F.faithful folder.old }
-    ensures same { F.faithful folder.new → F.contents folder.new ≡ F.contents folder.old }
+    ensures reads { OnlyReads F.device folder.old folder.new }
     ensures spot { IfOk result
-        (IsStatementSpot (F.faithful folder.new) (F.contents folder.old).files project.now number) }
-    ensures err { F.faithful folder.new → IfErr result (λ fault.
-        IsOfMachine (F.failures folder.old) (F.failures folder.new) fault
-        ⊎ HasTextFault (F.contents folder.old).files (script_of_project project.now) fault) }
+        (IsStatementSpot (F.device.faithful folder.new) (F.device.contents folder.old).files project.now
+        number) }
+    ensures err { F.device.faithful folder.new → IfErr result (λ fault.
+        IsOfMachine (F.device.failures folder.old) (F.device.failures folder.new) fault
+        ⊎ HasTextFault (F.device.contents folder.old).files (script_of_project project.now) fault) }
 {
     let script = script_of_project(alloc, project)?;
     let lines = lines_at(alloc, folder, &script)?;

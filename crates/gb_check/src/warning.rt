@@ -1,6 +1,6 @@
 //! All warnings of registered tasks.
 ghost use Rattle.std.specs.Prelude.{◌≡◌, IfErr, IfOk};
-ghost use Rattle.gb_folder.specs.Calls.{Requests, no_change};
+ghost use Rattle.gb_folder.specs.Calls.{OnlyReads};
 ghost use Rattle.gb_plan.specs.Graph.{paths_of};
 ghost use Rattle.gb_registry.specs.SoFar.{scripts_in};
 ghost use Rattle.gb_store.specs.Faults.{IsOfMachine};
@@ -33,13 +33,11 @@ pub(crate) fn warn<Ts: Tasks, F: Folder>(
 ) -> Result<Vec<Finding>, Fault>
     requires { names.now ≡ paths_of (Ts.registry tasks.old) }
     ensures kept { Ts.registry tasks.new ≡ Ts.registry tasks.old }
-    ensures back { F.faithful folder.new → F.faithful folder.old }
-    ensures requests { Requests F.failures F.may_leave F.allowed no_change folder.old folder.new }
-    ensures same { F.faithful folder.new → F.contents folder.new ≡ F.contents folder.old }
-    ensures warnings { IfOk result (λ found. AreWarnings (F.faithful folder.new) sites.now
-        (scripts_in scripts.now) (F.contents folder.old) (Ts.registry tasks.old) found.items) }
-    ensures err { F.faithful folder.new
-        → IfErr result (IsOfMachine (F.failures folder.old) (F.failures folder.new)) }
+    ensures reads { OnlyReads F.device folder.old folder.new }
+    ensures warnings { IfOk result (λ found. AreWarnings (F.device.faithful folder.new) sites.now
+        (scripts_in scripts.now) (F.device.contents folder.old) (Ts.registry tasks.old) found.items) }
+    ensures err { F.device.faithful folder.new
+        → IfErr result (IsOfMachine (F.device.failures folder.old) (F.device.failures folder.new)) }
 {
     let declared = declarations(alloc, tasks, names)?;
     let mut found = warn_declared(alloc, declared.as_slice(), scripts, sites)?;

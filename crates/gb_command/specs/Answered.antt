@@ -1,7 +1,7 @@
 -- The answer of the program.
 use Rattle.std.specs.Prelude.{ℕ, ◌≡◌, ◌⊎◌, List, [], Result, Ok, Err}
 use Rattle.std.specs.Result.{result_map_both}
-use Rattle.gb_folder.specs.Calls.{Requests, Call, no_change}
+use Rattle.gb_folder.specs.Calls.{Requests, no_change, Device}
 use Rattle.gb_folder.specs.Files.{Tearing}
 use Rattle.gb_build.specs.Invoking.{IsInvocation, KeepsPromise}
 use Rattle.gb_meaning.specs.Edits.{Shown}
@@ -37,13 +37,13 @@ IsRefused given old answer new =
 
 -- Over any folder: the arguments are refused, and no change is requested; or they request an invocation, and
 -- its calls and its answer are as they may be.
-abbrev pub DoesFor : {F M N Z S A : Type 0} → (F → ℕ) → (F → Tearing) → (F → Call → F → Type 0)
+abbrev pub DoesFor : {F M N Z S A : Type 0} → Device F
     → Tables M N Z S A → Given → Result Report Fault → F → F → Type 0
-DoesFor failures may_leave allowed tables given answer old new =
+DoesFor device tables given answer old new =
     ((fault : Fault) × AreRefused given fault × (answer ≡ Err fault)
-    × Requests failures may_leave allowed no_change old new)
+    × Requests device no_change old new)
     ⊎ ((asked : Invocation) × AskFor given asked
-    × IsInvocation failures may_leave allowed tables asked answer old new)
+    × IsInvocation device tables asked answer old new)
 
 module _ {M F Z S A : Type 0} (tables : Tables M F Z S A) (may_leave : Tearing) where
   -- where contents are known: the arguments are refused, or they request an invocation, with this answer

@@ -40,18 +40,19 @@ pub fn run<A: Actions, T: Transforms, F: Folder, W: Printer>(
     writer: &mut W,
     tables: &Tables<A, T>,
 ) -> Option<u8>
-    ensures count { F.failures folder.old ≤ F.failures folder.new }
-    ensures back { F.faithful folder.new → F.faithful folder.old }
+    ensures count { F.device.failures folder.old ≤ F.device.failures folder.new }
+    ensures back { F.device.faithful folder.new → F.device.faithful folder.old }
     // There is an answer to these arguments: where contents are known, as `Answers` says, and over
     // any folder as `DoesFor` says. With a status, the status is its own, and on a page whose
     // contents are known its text and nothing else is printed; without one, a beginning of its text.
     ensures reported { (answer : Result Report Fault)
-        × (F.faithful folder.new → Answers (tables_of T.meanings A.meanings tables.now) (F.may_leave folder.old)
+        × (F.device.faithful folder.new → Answers (tables_of T.meanings A.meanings tables.now)
+        (F.device.may_leave folder.old)
         (given_of (λ words. map string_bytes words.items) words)
-        (record { contents = F.contents folder.old; failures = F.failures folder.old })
+        (record { contents = F.device.contents folder.old; failures = F.device.failures folder.old })
         answer
-        (record { contents = F.contents folder.new; failures = F.failures folder.new }))
-        × DoesFor F.failures F.may_leave F.allowed (tables_of T.meanings A.meanings tables.now)
+        (record { contents = F.device.contents folder.new; failures = F.device.failures folder.new }))
+        × DoesFor F.device (tables_of T.meanings A.meanings tables.now)
         (given_of (λ words. map string_bytes words.items) words) answer folder.old folder.new
         × Prints W.contents W.whole (answer_text answer) writer.old writer.new
         × IfSome result (λ status.
@@ -78,15 +79,15 @@ fn answered<A: Actions, T: Transforms, F: Folder, W: Printer>(
     writer: &mut W,
 ) -> Result<Report, Fault>
     ensures printed { Prints W.contents W.whole (parts_of result) writer.old writer.new }
-    ensures back { F.faithful folder.new → F.faithful folder.old }
-    ensures count { F.failures folder.old ≤ F.failures folder.new }
-    ensures answers { F.faithful folder.new
-        → Answers (tables_of T.meanings A.meanings tables.now) (F.may_leave folder.old)
+    ensures back { F.device.faithful folder.new → F.device.faithful folder.old }
+    ensures count { F.device.failures folder.old ≤ F.device.failures folder.new }
+    ensures answers { F.device.faithful folder.new
+        → Answers (tables_of T.meanings A.meanings tables.now) (F.device.may_leave folder.old)
         (given_of (λ words. map string_bytes words.items) words)
-        (record { contents = F.contents folder.old; failures = F.failures folder.old })
+        (record { contents = F.device.contents folder.old; failures = F.device.failures folder.old })
         result
-        (record { contents = F.contents folder.new; failures = F.failures folder.new }) }
-    ensures does { DoesFor F.failures F.may_leave F.allowed
+        (record { contents = F.device.contents folder.new; failures = F.device.failures folder.new }) }
+    ensures does { DoesFor F.device
         (tables_of T.meanings A.meanings tables.now)
         (given_of (λ words. map string_bytes words.items) words) result folder.old folder.new }
 {

@@ -1,6 +1,6 @@
 -- The calls of a folder on a disk, which it keeps for proofs alone, and what is supposed of it.
 use Rattle.std.specs.Prelude.{ℕ, ◌≡◌, List, [], ◌∷◌, ◌++◌}
-use Rattle.gb_folder.specs.Calls.{Call}
+use Rattle.gb_folder.specs.Calls.{Call, Device}
 use Rattle.gb_folder.specs.Files.{Contents, Tearing}
 use Rattle.gb_disk.specs.Shown.{IsAnswered, shown}
 use Rattle.gb_disk.specs.Supposed.{Supposed, leaves_of}
@@ -34,3 +34,13 @@ contents_of folder = shown folder.log
 -- what a stopped write or removal may leave there, as is supposed
 abbrev pub may_leave_of : {R : Type 0} → DiskFolder R → Tearing
 may_leave_of folder = leaves_of (supposed_of folder)
+
+-- the folder by these
+abbrev pub disk_device : {R : Type 0} → Device (DiskFolder R)
+disk_device = record {
+  failures = failures_of;
+  may_leave = may_leave_of;
+  allowed = is_next;
+  faithful = IsAsSupposed;
+  contents = contents_of;
+}

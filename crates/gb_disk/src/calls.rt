@@ -1,5 +1,5 @@
 //! The calls of a folder on a disk, without the count of its failures.
-ghost use Rattle.std.specs.Prelude.{◌≡◌, ◌≢◌, ◌≤◌, ◌<◌, ◌⊎◌, length, Err, IsErrOf, IfOk};
+ghost use Rattle.std.specs.Prelude.{◌≡◌, ◌≢◌, ◌≤◌, ◌<◌, ◌⊎◌, ℕ, List, length, Err, IsErrOf, IfOk};
 ghost use Rattle.std.specs.Prelude.{IfErr, OnOk, string_bytes};
 ghost use Rattle.std.specs.List.Sorted.{IsStrictlySortedBy};
 ghost use Rattle.gb_core.specs.Lists.{byte_order};
@@ -13,7 +13,7 @@ use crate::trail::Trail;
 use crate::walk::Found;
 use gb_core::place::Place;
 use gb_folder::folder::FolderFault;
-use std::alloc::Global;
+use std::alloc::{AllocError, Global};
 use std::fs::Files;
 
 /// How often a read looks up a file and expects that nobody changes it meanwhile. After that it
@@ -31,6 +31,17 @@ fn within(bytes: Vec<u8>, limit: u64) -> Result<Vec<u8>, FolderFault>
     Ok(bytes)
 }
 
+/// The files that a walk under a folder has found. The folder is known from now on, and its file, if
+/// it has only one.
+fn taken_up(trail: &mut Trail, root: &Place, found: Found) -> Result<Vec<Place>, AllocError>
+    ensures { (under : List ℕ) → AllUnder under found.files.items
+        → IfOk result (λ places. AllUnder under places.items) }
+{
+    trail.remember(root.as_str())?;
+    trail.take_up(found.files.as_slice(), found.info)?;
+    Ok(found.files)
+}
+
 impl<R: Files> Device<R> {
     /// The places of the files at or under the root, in byte order.
     pub fn list(
@@ -44,7 +55,13 @@ impl<R: Files> Device<R> {
         ensures err { IfErr result IsOfListing }
     {
         trail.forget_listed();
-        let places = match self.look(trail, root)? {
+        if let Some(dir) = self.open_expected(trail, root)? {
+            let found = self.walk_in(alloc, trail, root, dir)?;
+            return Ok(in_order(taken_up(trail, root, found)?));
+        }
+        let entry = self.look(trail, root)?;
+        trail.note_listed(root, matches!(entry, Entry::Folder));
+        let places = match entry {
             Entry::File(info) => trail.list_file(alloc, root, info)?,
             Entry::Folder => self.list_folder(alloc, trail, root)?,
             Entry::Nothing | Entry::UnderFile => Vec::new(alloc),
@@ -64,9 +81,7 @@ impl<R: Files> Device<R> {
         ensures err { IfErr result IsOfListing }
     {
         let found = self.walk(alloc, trail, root)?;
-        trail.remember(root.as_str())?;
-        trail.take_up(found.files.as_slice(), found.info)?;
-        Ok(found.files)
+        Ok(taken_up(trail, root, found)?)
     }
 
     /// The bytes of a file of at most `limit` bytes, all from one open file.

@@ -18,7 +18,10 @@
 //! meanwhile, no link leads out of the folder, and no call waits for a pipe. Two look-ups are
 //! saved, on the assumption that nobody else writes there during a build: `list`, `read` and
 //! `read_part` trust a folder that they found earlier, until something is missing or a call fails;
-//! and a read trusts the length of a file that is the only one listed by the preceding call.
+//! and a read trusts the length of a file that is the only one listed by the preceding call. A
+//! third is saved without it: where `list` expects a folder, since the last root in the same folder
+//! was one, it opens that at once, by the system's call for folders, which follows no link at the
+//! end of its path and opens nothing else. If that fails, the root is looked up.
 //!
 //! A folder for one build ([`for_one_build`](disk::DiskFolder::for_one_build)) also remembers the
 //! last 32 listings, of which eight may have more than 16 places, and none more than 65,536: a

@@ -38,11 +38,18 @@ pub(crate) struct Trail {
     pub is_swept: bool,
     /// Buffer for the names of a folder that is listed.
     pub names: Vec<u8>,
-    /// The places where folders were found, with folders above them too; the one found last is at
-    /// the end.
-    known: Vec<String>,
+    /// The folders that were found, with folders above them too; the one found last is at the end.
+    known: Vec<Known>,
     /// The file that the preceding call listed, if it listed only this one.
     listed: Option<Listed>,
+}
+
+/// A folder at its place.
+#[derive(Drop)]
+struct Known {
+    place: String,
+    /// Whether a folder was at the place in it that was listed last.
+    lists_folders: bool,
 }
 
 /// A file at its place, and what its folder listed about it.
@@ -71,7 +78,11 @@ impl Trail {
     fn meets(&mut self, folder: &str) -> bool
         ensures { self.new.path ≡ self.old.path }
     {
-        match self.known.iter().position(|known| known.as_str() == folder) {
+        match self
+            .known
+            .iter()
+            .position(|known| known.place.as_str() == folder)
+        {
             Some(at) => {
                 self.known.slice_mut(at..).rotate_left(1);
                 true
@@ -87,6 +98,32 @@ impl Trail {
         match place.as_str().rsplit_once('/') {
             Some((folder, _)) => self.meets(folder),
             None => true,
+        }
+    }
+
+    /// Whether a folder is expected at the place that is to be listed: the folder above it is known,
+    /// and what was listed in that last was a folder too.
+    pub fn expects_folder(&mut self, place: &Place) -> bool
+        ensures { self.new.path ≡ self.old.path }
+    {
+        match place.as_str().rsplit_once('/') {
+            Some((above, _)) => {
+                self.meets(above) && self.known.last().is_some_and(|known| known.lists_folders)
+            }
+            None => false,
+        }
+    }
+
+    /// Records whether a folder was at the place that is listed.
+    pub fn note_listed(&mut self, place: &Place, is_folder: bool)
+        ensures { self.new.path ≡ self.old.path }
+    {
+        if let Some((above, _)) = place.as_str().rsplit_once('/') {
+            if self.meets(above) {
+                if let Some(known) = self.known.last_mut() {
+                    known.lists_folders = is_folder;
+                }
+            }
         }
     }
 
@@ -107,12 +144,15 @@ impl Trail {
         if self.meets(folder) {
             return Ok(());
         }
-        let copy = String::from_str(*self.path.allocator(), folder)?;
+        let known = Known {
+            place: String::from_str(*self.path.allocator(), folder)?,
+            lists_folders: false,
+        };
         if self.known.len() == MOST {
             // The one that was found longest ago.
             self.known.remove(0);
         }
-        Ok(self.known.push(copy)?)
+        Ok(self.known.push(known)?)
     }
 
     /// Lists a file by its own place, and remembers what was listed.

@@ -100,19 +100,38 @@ fn next_names<D: Read>(dir: &mut D, names: &mut [u8]) -> Result<usize, FolderFau
 }
 
 impl<R: Files> Device<R> {
-    /// Walks through the folder at a root.
+    /// Walks through the folder at a root. One that no longer exists has no entries.
     pub fn walk(&self, alloc: Global, trail: &mut Trail, root: &Place) -> Result<Found, FolderFault>
+        ensures under { IfOk result (λ found. AllUnder root.now found.files.items) }
+        ensures err { IfErr result IsOfListing }
+    {
+        match self.open_folder(&mut trail.path, root)? {
+            Some(dir) => self.walk_in(alloc, trail, root, dir),
+            None => Ok(Found::new(alloc, root)?),
+        }
+    }
+
+    /// Walks through the folder at a root, which is open.
+    #[tactic(auto, using(crate::proofs::Descends::under_itself))]
+    pub fn walk_in(
+        &self,
+        alloc: Global,
+        trail: &mut Trail,
+        root: &Place,
+        dir: R::Dir,
+    ) -> Result<Found, FolderFault>
         ensures under { IfOk result (λ found. AllUnder root.now found.files.items) }
         ensures err { IfErr result IsOfListing }
     {
         let mut found = Found::new(alloc, root)?;
         trail.names.resize(NAMES, 0)?;
         let names = trail.names.as_mut_slice();
+        self.meet_all(alloc, &mut trail.path, root, root, dir, names, &mut found)?;
         self.enter_all(alloc, &mut trail.path, root, names, &mut found)?;
         Ok(found)
     }
 
-    /// Visits the entries of each folder that was found, or is found meanwhile.
+    /// Visits the entries of each folder under the root that was found, or is found meanwhile.
     fn enter_all(
         &self,
         alloc: Global,
@@ -126,7 +145,7 @@ impl<R: Files> Device<R> {
         ensures files { AllUnder root.now found.new.files.items }
         ensures err { IfErr result IsOfListing }
     {
-        for index in 0..=MOST_ENTRIES as usize {
+        for index in 1..=MOST_ENTRIES as usize {
             let Some(folder) = found.folder_at(index)? else {
                 return Ok(());
             };
@@ -152,9 +171,30 @@ impl<R: Files> Device<R> {
         ensures folders { AllUnder root.now found.new.folders.items }
         ensures err { IfErr result IsOfListing }
     {
-        let Some(mut dir) = self.open_folder(path, folder)? else {
-            return Ok(());
-        };
+        match self.open_folder(path, folder)? {
+            Some(dir) => self.meet_all(alloc, path, root, folder, dir, names, found),
+            None => Ok(()),
+        }
+    }
+
+    /// Visits the entries of a folder, which is open.
+    fn meet_all(
+        &self,
+        alloc: Global,
+        path: &mut String,
+        root: &Place,
+        folder: &Place,
+        mut dir: R::Dir,
+        names: &mut [u8],
+        found: &mut Found,
+    ) -> Result<(), FolderFault>
+        requires folder { IsTrue (is_under folder.now root.now) }
+        requires files { AllUnder root.now found.old.files.items }
+        requires folders { AllUnder root.now found.old.folders.items }
+        ensures files { AllUnder root.now found.new.files.items }
+        ensures folders { AllUnder root.now found.new.folders.items }
+        ensures err { IfErr result IsOfListing }
+    {
         for _ in 0..u64::MAX {
             let read = next_names(&mut dir, names)?;
             if read == 0 {

@@ -52,7 +52,7 @@ pub fn execute<A: Actions, F: Folder, L: TaskListener, P: Printer>(
     requires can { CanBuild A.meanings table.now plan.now }
     requires each { length records.now ≡ length plan.now }
     ensures unbegun { OnErr result (folder.new ≡ folder.old) }
-    ensures back { F.faithful folder.new → F.faithful folder.old }
+    ensures back { F.device.faithful folder.new → F.device.faithful folder.old }
     ensures unnotified { OnErr result (listeners.new ≡ listeners.old) }
     ensures unprinted { OnErr result (printer.new ≡ printer.old) }
     ensures dry_run { IfOk result (λ report. report.dry_run ≡ options.dry_run) }
@@ -64,36 +64,39 @@ pub fn execute<A: Actions, F: Folder, L: TaskListener, P: Printer>(
     // The parts of its tasks were printed; or a beginning of them, where they could not be.
     ensures printed { IfOk result (λ report.
         Prints P.contents P.whole (parts_text report) printer.old printer.new) }
-    ensures count { F.failures folder.old ≤ F.failures folder.new }
-    ensures tearing { SameTearing (F.may_leave folder.old) (F.may_leave folder.new) }
+    ensures count { F.device.failures folder.old ≤ F.device.failures folder.new }
+    ensures tearing { SameTearing (F.device.may_leave folder.old) (F.device.may_leave folder.new) }
     // Over any folder: task after task, each from the state in which the one before it ended, makes
     // the calls that its outcome permits. What is up to date was found so on what calls returned
     // since the last change of the build, or since the build began.
-    ensures requests { IfOk result (λ report. ExecutionsRequest F.failures F.may_leave F.allowed A.meanings
+    ensures requests { IfOk result (λ report. ExecutionsRequest F.device A.meanings
         table.now
         options plan.now records.now report.tasks folder.old folder.old folder.new) }
     // Faults are attributed to the device no more often than it failed.
     ensures device { IfOk result (λ report.
-        HasFailed (times_blamed report.tasks) (F.failures folder.old) (F.failures folder.new)) }
+        HasFailed (times_blamed report.tasks) (F.device.failures folder.old) (F.device.failures folder.new)) }
     ensures dry { options.dry_run ≡ true → folder.new ≡ folder.old }
-    ensures changes { F.faithful folder.new
-        → ChangesOnly (is_of_executions plan.now) (F.contents folder.old) (F.contents folder.new) }
+    ensures changes { F.device.faithful folder.new
+        → ChangesOnly (is_of_executions plan.now) (F.device.contents folder.old)
+        (F.device.contents folder.new) }
     // Where contents are known and `IsAssumed` holds: if `AreTrueBefore` holds of the records, this is
     // a build of the plan by the definitions. If also `guard` holds of the contents so far (no two share a
     // digest, or nothing was remembered), the records of what is remembered exist after it.
-    ensures build { F.faithful folder.new → IfOk result (λ report. (kinds : Kinds) (registry_of : Registering)
+    ensures build { F.device.faithful folder.new → IfOk result (λ report. (kinds : Kinds)
+        (registry_of : Registering)
         (remembered : Memory) (clear : Bool) (observed : List Bytes)
-        → IsAssumed A.meanings table.now kinds (F.may_leave folder.old)
+        → IsAssumed A.meanings table.now kinds (F.device.may_leave folder.old)
         → (IsTrue clear
-        → AreTrueBefore kinds plan.now records.now observed (F.contents folder.old) remembered)
-        → HasBuilt (setting_with kinds registry_of (F.may_leave folder.old)) clear observed options plan.now
+        → AreTrueBefore kinds plan.now records.now observed (F.device.contents folder.old) remembered)
+        → HasBuilt (setting_with kinds registry_of (F.device.may_leave folder.old)) clear observed options
+        plan.now
         (record {
-          contents = F.contents folder.old;
+          contents = F.device.contents folder.old;
           remembered = remembered;
-          failures = F.failures folder.old;
+          failures = F.device.failures folder.old;
         })
         report.tasks
-        (record { contents = F.contents folder.new; failures = F.failures folder.new })) }
+        (record { contents = F.device.contents folder.new; failures = F.device.failures folder.new })) }
 {
     reported_is_heard();
     let tasks = plan.as_slice();

@@ -74,34 +74,37 @@ pub(crate) fn execute_tasks<A: Actions, F: Folder, L: TaskListener, P: Printer>(
     requires none { reports.old.items ≡ [] }
     requires room { length build.now.tasks.now ≤ vec_capacity reports.old }
     ensures of_tasks { AllZip IsOf build.now.tasks.now reports.new.items }
-    ensures back { F.faithful folder.new → F.faithful folder.old }
+    ensures back { F.device.faithful folder.new → F.device.faithful folder.old }
     ensures outline { AreOutlines build.now.options build.now.tasks.now [] build.now.tasks.now
         reports.new.items }
     ensures heard { AllReported (heard_of false reports.new.items) result
         (map L.ear listeners.old.items) (map L.ear listeners.new.items) }
     ensures printed { Prints P.contents P.whole (flat_map task_text reports.new.items)
         printer.old printer.new }
-    ensures requests { ExecutionsRequest F.failures F.may_leave F.allowed A.meanings build.now.table.now
+    ensures requests { ExecutionsRequest F.device A.meanings build.now.table.now
         build.now.options build.now.tasks.now build.now.records.now reports.new.items folder.old folder.old
         folder.new }
     ensures device { HasFailed (times_blamed reports.new.items)
-        (F.failures folder.old) (F.failures folder.new) }
-    ensures changes { F.faithful folder.new
-        → ChangesOnly (is_of_executions build.now.tasks.now) (F.contents folder.old) (F.contents folder.new) }
-    ensures build { F.faithful folder.new → (kinds : Kinds) (registry_of : Registering) (remembered : Memory)
+        (F.device.failures folder.old) (F.device.failures folder.new) }
+    ensures changes { F.device.faithful folder.new
+        → ChangesOnly (is_of_executions build.now.tasks.now) (F.device.contents folder.old)
+        (F.device.contents folder.new) }
+    ensures build { F.device.faithful folder.new → (kinds : Kinds) (registry_of : Registering)
+        (remembered : Memory)
         (clear : Bool) (observed : List Bytes)
-        → IsAssumed A.meanings build.now.table.now kinds (F.may_leave folder.old)
+        → IsAssumed A.meanings build.now.table.now kinds (F.device.may_leave folder.old)
         → (IsTrue clear → AreTrueBefore kinds build.now.tasks.now build.now.records.now observed
-        (F.contents folder.old) remembered)
-        → HasBuilt (setting_with kinds registry_of (F.may_leave folder.old)) clear observed build.now.options
+        (F.device.contents folder.old) remembered)
+        → HasBuilt (setting_with kinds registry_of (F.device.may_leave folder.old)) clear observed
+        build.now.options
         build.now.tasks.now
         (record {
-          contents = F.contents folder.old;
+          contents = F.device.contents folder.old;
           remembered = remembered;
-          failures = F.failures folder.old;
+          failures = F.device.failures folder.old;
         })
         reports.new.items
-        (record { contents = F.contents folder.new; failures = F.failures folder.new }) }
+        (record { contents = F.device.contents folder.new; failures = F.device.failures folder.new }) }
 {
     what_is_read_is_known();
     reported_more();

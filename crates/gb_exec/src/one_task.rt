@@ -92,7 +92,7 @@ pub(crate) fn execute_one<A: Actions, F: Folder, L: TaskListener>(
     requires path { (planned : Planned) → slice_get build.now.tasks.now index ≡ Some planned
         → path ≡ planned.task.path }
     ensures starts { starts.new ≡ starts.old }
-    ensures back { F.faithful folder.new → F.faithful folder.old }
+    ensures back { F.device.faithful folder.new → F.device.faithful folder.old }
     ensures of_task { (planned : Planned) → slice_get build.now.tasks.now index ≡ Some planned
         → IsOf planned result.report }
     ensures heard { AllReported (heard_of false (result.report ∷ [])) result.all_heard
@@ -100,42 +100,44 @@ pub(crate) fn execute_one<A: Actions, F: Folder, L: TaskListener>(
     // Over any folder: it makes the calls that its outcome permits; and what is remembered was read
     // since the last change.
     ensures requests { (planned : Planned) → slice_get build.now.tasks.now index ≡ Some planned
-        → (since : _) → Requests F.failures F.may_leave F.allowed no_change since folder.old
-        → AreSeen F.failures F.may_leave F.allowed since folder.old seen.old
-        → ExecutionRequests F.failures F.may_leave F.allowed A.meanings build.now.table.now build.now.options
+        → (since : _) → Requests F.device no_change since folder.old
+        → AreSeen F.device since folder.old seen.old
+        → ExecutionRequests F.device A.meanings build.now.table.now build.now.options
         planned.task (slice_index_or build.now.records.now index None) result.report.outcome
         result.report.lines since folder.old folder.new }
-    ensures seen { (since : _) → Requests F.failures F.may_leave F.allowed no_change since folder.old
-        → AreSeen F.failures F.may_leave F.allowed since folder.old seen.old
-        → AreSeen F.failures F.may_leave F.allowed (since_after result.report.outcome since folder.new)
+    ensures seen { (since : _) → Requests F.device no_change since folder.old
+        → AreSeen F.device since folder.old seen.old
+        → AreSeen F.device (since_after result.report.outcome since folder.new)
         folder.new seen.new }
     ensures blame { (place : List ℕ) → result.report.outcome ≡ Failed (Fault.Device place)
-        → HasRisen (F.failures folder.old) (F.failures folder.new) }
-    ensures changes { F.faithful folder.new → (planned : Planned)
+        → HasRisen (F.device.failures folder.old) (F.device.failures folder.new) }
+    ensures changes { F.device.faithful folder.new → (planned : Planned)
         → slice_get build.now.tasks.now index ≡ Some planned
-        → ChangesOnly (is_of_execution planned.task) (F.contents folder.old) (F.contents folder.new) }
+        → ChangesOnly (is_of_execution planned.task) (F.device.contents folder.old)
+        (F.device.contents folder.new) }
     // Over any folder, at each moment with the outcomes so far, its report is one that the outline
     // permits.
     ensures outline { (moment : Moment) (planned : Planned)
         → slice_get build.now.tasks.now index ≡ Some planned
         → AreEndings build.now.tasks.now moment.outcomes starts.old.endings
         → IsOutline build.now.options build.now.tasks.now moment planned result.report }
-    ensures seen_in { F.faithful folder.new → AreSeenIn (F.contents folder.old).files seen.old
-        → AreSeenIn (F.contents folder.new).files seen.new }
+    ensures seen_in { F.device.faithful folder.new → AreSeenIn (F.device.contents folder.old).files seen.old
+        → AreSeenIn (F.device.contents folder.new).files seen.new }
     // If the record that was read is a true record of the task (`IsKnown`), this is its execution
     // as defined.
-    ensures execution { F.faithful folder.new → AreSeenIn (F.contents folder.old).files seen.old
+    ensures execution { F.device.faithful folder.new → AreSeenIn (F.device.contents folder.old).files seen.old
         → (kinds : Kinds) (registry_of : Registering) (moment : Moment) (planned : Planned)
         → slice_get build.now.tasks.now index ≡ Some planned
-        → IsAssumed A.meanings build.now.table.now kinds (F.may_leave folder.old)
-        → moment.world.folder ≡ outside (F.contents folder.old)
-        → moment.failures ≡ F.failures folder.old
-        → HoldsRecords (F.contents folder.old).files moment.world.memory
+        → IsAssumed A.meanings build.now.table.now kinds (F.device.may_leave folder.old)
+        → moment.world.folder ≡ outside (F.device.contents folder.old)
+        → moment.failures ≡ F.device.failures folder.old
+        → HoldsRecords (F.device.contents folder.old).files moment.world.memory
         → AreEndings build.now.tasks.now moment.outcomes starts.old.endings
         → IsKnown kinds planned.task moment.world (slice_index_or build.now.records.now index None)
-        → IsExecutionOf (setting_with kinds registry_of (F.may_leave folder.old)) build.now.options
-        build.now.tasks.now moment planned result.report (F.contents folder.old) (F.failures folder.new)
-        (F.contents folder.new) }
+        → IsExecutionOf (setting_with kinds registry_of (F.device.may_leave folder.old)) build.now.options
+        build.now.tasks.now moment planned result.report (F.device.contents folder.old)
+        (F.device.failures folder.new)
+        (F.device.contents folder.new) }
 {
     starts_by_number();
     needs_by_number();

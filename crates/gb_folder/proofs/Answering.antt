@@ -4,16 +4,17 @@ use Rattle.gb_folder.specs.Answers.{IsOnWay, WereRead}
 use Rattle.gb_folder.specs.Calls.{Requests, Call, no_change}
 use Rattle.gb_folder.specs.Files.{Bytes, Place, Tearing}
 use Rattle.gb_folder.proofs.Asked.{requests_nothing, requests_then}
+use Rattle.gb_folder.specs.Calls.{Device}
 
-module _ {F : Type 0} {failures : F → ℕ} {may_leave : F → Tearing} {allowed : F → Call → F → Type 0} where
+module _ {F : Type 0} {device : Device F} where
   -- one call, as it was made
-  pub on_way_here : {call : Call} {old new : F} → allowed old call new → IsOnWay failures may_leave allowed call old new
+  pub on_way_here : {call : Call} {old new : F} → device.allowed old call new → IsOnWay device call old new
   on_way_here {old = old} {new = new} is =
       record { before = old; after = new; first = requests_nothing old; is = is; rest = requests_nothing new }
 
-  pub on_longer_way : {call : Call} {first old new end : F} → Requests failures may_leave allowed no_change first old
-      → Requests failures may_leave allowed no_change new end → IsOnWay failures may_leave allowed call old new
-      → IsOnWay failures may_leave allowed call first end
+  pub on_longer_way : {call : Call} {first old new end : F} → Requests device no_change first old
+      → Requests device no_change new end → IsOnWay device call old new
+      → IsOnWay device call first end
   on_longer_way before following way = record {
     before = way.before;
     after = way.after;
@@ -22,7 +23,7 @@ module _ {F : Type 0} {failures : F → ℕ} {may_leave : F → Tearing} {allowe
     rest = requests_then way.rest following;
   }
 
-  pub read_longer : {first old new end : F} → Requests failures may_leave allowed no_change first old → Requests failures may_leave allowed no_change new end
-      → (place : Place) (bytes : Bytes) → WereRead failures may_leave allowed old new place bytes
-      → WereRead failures may_leave allowed first end place bytes
+  pub read_longer : {first old new end : F} → Requests device no_change first old → Requests device no_change new end
+      → (place : Place) (bytes : Bytes) → WereRead device old new place bytes
+      → WereRead device first end place bytes
   read_longer before following place bytes read = on_longer_way before following read

@@ -1,7 +1,7 @@
 -- What sequences of calls request of a folder: lemmas for callers of folders.
-use Rattle.std.proofs.Common.{◌≡◌, ◌≤◌, ℕ, Bool, true, List, Option, Some, None, refl, sym, arith, subst}
-use Rattle.gb_folder.specs.Calls.{Call, Lists, Reads, ReadsPart, Writes, Removes, Permit, IsPermitted, IsReachedBy, none, then, Requests, no_change, put_at, taken_at, takes_at, changes_at}
-use Rattle.gb_folder.specs.Files.{Tearing, SameTearing}
+use Rattle.std.proofs.Common.{◌≡◌, ◌≤◌, ℕ, Bool, true, List, Option, Some, None, refl, sym, ◌∙◌, arith, subst}
+use Rattle.gb_folder.specs.Calls.{Call, Lists, Reads, ReadsPart, Writes, Removes, Permit, IsPermitted, IsReachedBy, none, then, Requests, Device, OnlyReads, no_change, put_at, taken_at, takes_at, changes_at}
+use Rattle.gb_folder.specs.Files.{SameTearing}
 use Rattle.gb_folder.proofs.Changes.{SameTearing-same, SameTearing-chain}
 
 -- ---- one call
@@ -14,25 +14,38 @@ pub taking_permitted : (place : List ℕ) → taken_at place place None
 unfolding taken_at
 taking_permitted place = (refl, refl)
 
-pub one_call : {F : Type 0} {failures : F → ℕ} {may_leave : F → Tearing} {allowed : F → Call → F → Type 0} {permit : Permit} {old new : F}
-    (call : Call) → IsPermitted permit call → failures old ≤ failures new → SameTearing (may_leave old) (may_leave new) → allowed old call new
-    → Requests failures may_leave allowed permit old new
-one_call call permitted count tearing is = record { count = count; tearing = tearing; calls = λ led. then call _ led permitted is }
+pub one_call : {F : Type 0} {device : Device F} {permit : Permit} {old new : F}
+    (call : Call) → IsPermitted permit call → device.failures old ≤ device.failures new → SameTearing (device.may_leave old) (device.may_leave new)
+    → (device.faithful new → device.faithful old) → device.allowed old call new
+    → Requests device permit old new
+one_call call permitted count tearing back is = record { count = count; tearing = tearing; back = back; calls = λ led. then call _ led permitted is }
 
 -- ---- no call
 
-pub requests_nothing : {F : Type 0} {failures : F → ℕ} {may_leave : F → Tearing} {allowed : F → Call → F → Type 0} {permit : Permit} (folder : F)
-    → Requests failures may_leave allowed permit folder folder
-requests_nothing folder = record { count = omega arith; tearing = SameTearing-same _; calls = λ led. led }
+pub requests_nothing : {F : Type 0} {device : Device F} {permit : Permit} (folder : F)
+    → Requests device permit folder folder
+requests_nothing folder = record { count = omega arith; tearing = SameTearing-same _; back = λ known. known; calls = λ led. led }
 
 -- ---- these calls and then those
 
-pub requests_then : {F : Type 0} {failures : F → ℕ} {may_leave : F → Tearing} {allowed : F → Call → F → Type 0} {permit : Permit} {old mid new : F}
-    → Requests failures may_leave allowed permit old mid → Requests failures may_leave allowed permit mid new → Requests failures may_leave allowed permit old new
+pub requests_then : {F : Type 0} {device : Device F} {permit : Permit} {old mid new : F}
+    → Requests device permit old mid → Requests device permit mid new → Requests device permit old new
 requests_then first second = record {
   count = omega (arith, first.count, second.count);
   tearing = SameTearing-chain _ _ _ first.tearing second.tearing;
+  back = λ known. first.back (second.back known);
   calls = λ led. second.calls (first.calls led);
+}
+
+-- ---- calls that only read
+
+pub reads_nothing : {F : Type 0} {device : Device F} (folder : F) → OnlyReads device folder folder
+reads_nothing folder = record { requests = requests_nothing folder; same = λ known. refl }
+
+pub reads_then : {F : Type 0} {device : Device F} {old mid new : F} → OnlyReads device old mid → OnlyReads device mid new → OnlyReads device old new
+reads_then first second = record {
+  requests = requests_then first.requests second.requests;
+  same = λ known. second.same known ∙ first.same (second.requests.back known);
 }
 
 -- ---- what permits more
@@ -55,35 +68,35 @@ module _ {F : Type 0} {allowed : F → Call → F → Type 0} where
   leads_on first none = first
   leads_on first (then call new led permitted is) = then call new (leads_on first led) permitted is
 
-pub requests_more : {F : Type 0} {failures : F → ℕ} {may_leave : F → Tearing} {allowed : F → Call → F → Type 0} {some more : Permit} {old new : F}
+pub requests_more : {F : Type 0} {device : Device F} {some more : Permit} {old new : F}
     → ((place : List ℕ) (next : Option (List ℕ)) → some place next → more place next)
-    → Requests failures may_leave allowed some old new → Requests failures may_leave allowed more old new
-requests_more wider some = record { count = some.count; tearing = some.tearing; calls = λ led. leads_on led (leads_more wider (some.calls none)) }
+    → Requests device some old new → Requests device more old new
+requests_more wider some = record { count = some.count; tearing = some.tearing; back = some.back; calls = λ led. leads_on led (leads_more wider (some.calls none)) }
 
 -- calls that request no change fit any permission
-pub requests_reading : {F : Type 0} {failures : F → ℕ} {may_leave : F → Tearing} {allowed : F → Call → F → Type 0} {permit : Permit} {old new : F}
-    → Requests failures may_leave allowed no_change old new → Requests failures may_leave allowed permit old new
+pub requests_reading : {F : Type 0} {device : Device F} {permit : Permit} {old new : F}
+    → Requests device no_change old new → Requests device permit old new
 unfolding no_change
 requests_reading reads = requests_more (λ place next none. absurd none) reads
 
 -- one write, or one removal, where it is permitted
-pub requests_put : {F : Type 0} {failures : F → ℕ} {may_leave : F → Tearing} {allowed : F → Call → F → Type 0} {permit : Permit} {old new : F}
+pub requests_put : {F : Type 0} {device : Device F} {permit : Permit} {old new : F}
     (place bytes : List ℕ) → permit place (Some bytes)
-    → Requests failures may_leave allowed (put_at place bytes) old new → Requests failures may_leave allowed permit old new
+    → Requests device (put_at place bytes) old new → Requests device permit old new
 unfolding put_at
 requests_put {permit = permit} place bytes may puts =
     requests_more (λ at next is. subst (λ (n : Option (List ℕ)). permit at n) (sym is.1) (subst (λ (p : List ℕ). permit p (Some bytes)) (sym is.0) may)) puts
 
-pub requests_taken : {F : Type 0} {failures : F → ℕ} {may_leave : F → Tearing} {allowed : F → Call → F → Type 0} {permit : Permit} {old new : F}
+pub requests_taken : {F : Type 0} {device : Device F} {permit : Permit} {old new : F}
     (place : List ℕ) → permit place None
-    → Requests failures may_leave allowed (taken_at place) old new → Requests failures may_leave allowed permit old new
+    → Requests device (taken_at place) old new → Requests device permit old new
 unfolding taken_at
 requests_taken {permit = permit} place may takes =
     requests_more (λ at next is. subst (λ (n : Option (List ℕ)). permit at n) (sym is.1) (subst (λ (p : List ℕ). permit p None) (sym is.0) may)) takes
 
 -- the calls themselves
-pub led : {F : Type 0} {failures : F → ℕ} {may_leave : F → Tearing} {allowed : F → Call → F → Type 0} {permit : Permit} {old new : F}
-    → Requests failures may_leave allowed permit old new → IsReachedBy allowed permit old new
+pub led : {F : Type 0} {device : Device F} {permit : Permit} {old new : F}
+    → Requests device permit old new → IsReachedBy device.allowed permit old new
 led requests = requests.calls none
 
 -- ---- changes where a test holds
@@ -110,12 +123,12 @@ pub takes_more : (some more : List ℕ → Bool) → ((place : List ℕ) → som
 unfolding takes_at
 takes_more some more wider place next takes = (wider place takes.0, takes.1)
 
-pub requests_where : {F : Type 0} {failures : F → ℕ} {may_leave : F → Tearing} {allowed : F → Call → F → Type 0} {old new : F} (some more : List ℕ → Bool)
+pub requests_where : {F : Type 0} {device : Device F} {old new : F} (some more : List ℕ → Bool)
     → ((place : List ℕ) → some place ≡ true → more place ≡ true)
-    → Requests failures may_leave allowed (changes_at some) old new → Requests failures may_leave allowed (changes_at more) old new
+    → Requests device (changes_at some) old new → Requests device (changes_at more) old new
 requests_where some more wider changes = requests_more (changes_more some more wider) changes
 
-pub takes_where : {F : Type 0} {failures : F → ℕ} {may_leave : F → Tearing} {allowed : F → Call → F → Type 0} {old new : F} (some more : List ℕ → Bool)
+pub takes_where : {F : Type 0} {device : Device F} {old new : F} (some more : List ℕ → Bool)
     → ((place : List ℕ) → some place ≡ true → more place ≡ true)
-    → Requests failures may_leave allowed (takes_at some) old new → Requests failures may_leave allowed (takes_at more) old new
+    → Requests device (takes_at some) old new → Requests device (takes_at more) old new
 takes_where some more wider takes = requests_more (takes_more some more wider) takes

@@ -3,7 +3,8 @@ use Rattle.std.specs.Prelude.{ℕ, ◌≡◌, ◌<◌, ◌+◌, ◌++◌, List, 
 use Rattle.std.proofs.Common.{refl, sym, ap, subst, ◌∙◌, append_assoc}
 use Rattle.std.proofs.lemmas.List.{append-nil, at_drop_more, take-append-drop, take_more}
 use Rattle.gb_folder.specs.Calls.{Call}
-use Rattle.gb_folder.specs.Device.{Device, Leads}
+use Rattle.gb_folder.specs.Calls.{Device}
+use Rattle.gb_folder.specs.Device.{Leads}
 use Rattle.gb_folder.specs.Each.{Each, Ended, OrStops}
 use Rattle.gb_folder.proofs.Leading.{leads_on}
 

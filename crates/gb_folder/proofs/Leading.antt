@@ -2,8 +2,8 @@
 use Rattle.std.specs.Prelude.{◌≡◌, ◌≤◌, ◌++◌, List, [], ◌∷◌, Option, Some, None, Ok, Err, IsTrue}
 use Rattle.std.specs.List.{AllByRecursion}
 use Rattle.std.proofs.Common.{refl, sym, subst, arith}
-use Rattle.gb_folder.specs.Calls.{Requests, Call, IsPermitted, Lists, Permit, Reads, ReadsPart, Removes, Writes}
-use Rattle.gb_folder.specs.Device.{Device, IsCalled, Leads}
+use Rattle.gb_folder.specs.Calls.{Device, Requests, Call, IsPermitted, Lists, Permit, Reads, ReadsPart, Removes, Writes}
+use Rattle.gb_folder.specs.Device.{IsCalled, Leads}
 use Rattle.gb_folder.specs.Files.{Bytes, Contents, IsFolder, IsTorn, Place, SameTearing, Tearing}
 use Rattle.gb_folder.specs.Semantics.{Answers, AnswersAll}
 use Rattle.gb_folder.specs.declared.folder.FolderFault.TheVariants as folders
@@ -20,19 +20,13 @@ module _ {F : Type 0} (device : Device F) where
   pub leads_once : (old new : F) (call : Call) → IsCalled device old call new → Leads device old (call ∷ []) new
   leads_once old new call called = (new, called, refl)
 
-  pub requests_of : (permit : Permit) (old new : F) (calls : List Call) → AllByRecursion (IsPermitted permit) calls → Leads device old calls new → Requests device.failures device.may_leave device.allowed permit old new
-  requests_of permit old new [] all same = subst (λ (f : F). Requests device.failures device.may_leave device.allowed permit old f) (sym same) (requests_nothing old)
-  requests_of permit old new (call ∷ calls) all led = requests_then (one_call call all.0 led.1.count led.1.tearing led.1.allowed) (requests_of permit led.0 new calls all.1 led.2)
+  pub requests_of : (permit : Permit) (old new : F) (calls : List Call) → AllByRecursion (IsPermitted permit) calls → Leads device old calls new → Requests device permit old new
+  requests_of permit old new [] all same = subst (λ (f : F). Requests device permit old f) (sym same) (requests_nothing old)
+  requests_of permit old new (call ∷ calls) all led = requests_then (one_call call all.0 led.1.count led.1.tearing led.1.back led.1.allowed) (requests_of permit led.0 new calls all.1 led.2)
 
   pub count_of : (old new : F) (calls : List Call) → Leads device old calls new → device.failures old ≤ device.failures new
   count_of old new [] same = subst (λ (f : F). device.failures old ≤ device.failures f) (sym same) (omega arith)
   count_of old new (call ∷ calls) led = omega (arith, led.1.count, count_of led.0 new calls led.2)
-
--- if each valid call of one device is valid for another, so is each sequence of calls
-pub leads_as : {F : Type 0} (first second : Device F) → ((old : F) (call : Call) (new : F) → IsCalled first old call new → IsCalled second old call new)
-    → (old new : F) (calls : List Call) → Leads first old calls new → Leads second old calls new
-leads_as first second same_call old new [] same = same
-leads_as first second same_call old new (call ∷ calls) led = (led.0, same_call old call led.0 led.1, leads_as first second same_call led.0 new calls led.2)
 
 -- ---- what a stopped call may leave
 

@@ -3,7 +3,7 @@ use Rattle.std.specs.Prelude.{ℕ, ◌≡◌, ◌≤◌, Bool, List, Option, Som
 use Rattle.std.specs.Global.{Global}
 use Rattle.std.specs.Result.{result_err}
 use Rattle.std.specs.declared.vec.Vec.{Vec}
-use Rattle.gb_folder.specs.Files.{Place, Bytes, Tearing, SameTearing}
+use Rattle.gb_folder.specs.Files.{Place, Bytes, Contents, Tearing, SameTearing}
 use Rattle.gb_folder.specs.declared.folder.FolderFault.{FolderFault}
 
 -- a call of a folder, with its answer
@@ -27,6 +27,15 @@ fault_of (ReadsPart place at len answer) = result_err answer
 fault_of (Writes place bytes limit answer) = result_err answer
 fault_of (Removes place answer) = result_err answer
 
+-- What a type of folders declares about itself: how often the device failed, what a stopped call may leave,
+-- which call may lead from one state to another, in which states the contents are known, and these contents.
+pub record Device (F : Type 0) : Type 1 where
+  pub failures : F → ℕ
+  pub may_leave : F → Tearing
+  pub allowed : F → Call → F → Type 0
+  pub faithful : F → Type 0
+  pub contents : F → Contents
+
 -- Which change may be requested at a place: to write these bytes, or to remove the file there.
 abbrev pub Permit : Type 1
 Permit = Place → Option Bytes → Type 0
@@ -47,13 +56,14 @@ pub data IsReachedBy {F : Type 0} (allowed : F → Call → F → Type 0) (permi
       → allowed mid call new → IsReachedBy allowed permit old new
 
 -- The requests to a folder between two of its states: if such calls led to the first state, such calls lead
--- to the second. The device's count of failures never falls. What a stopped call may leave stays the same.
-pub record Requests {F : Type 0} (failures : F → ℕ) (may_leave : F → Tearing)
-    (allowed : F → Call → F → Type 0)
-    (permit : Permit) (old new : F) : Type 0 where
-  pub count : failures old ≤ failures new
-  pub tearing : SameTearing (may_leave old) (may_leave new)
-  pub calls : {first : F} → IsReachedBy allowed permit first old → IsReachedBy allowed permit first new
+-- to the second. The device's count of failures never falls. What a stopped call may leave stays the same. If
+-- the contents are known at the end, they were known at the beginning.
+pub record Requests {F : Type 0} (device : Device F) (permit : Permit) (old new : F) : Type 0 where
+  pub count : device.failures old ≤ device.failures new
+  pub tearing : SameTearing (device.may_leave old) (device.may_leave new)
+  pub back : device.faithful new → device.faithful old
+  pub calls : {first : F} → IsReachedBy device.allowed permit first old
+      → IsReachedBy device.allowed permit first new
 
 -- no change is requested
 unfoldable pub no_change : Permit
@@ -74,3 +84,8 @@ takes_at test place next = IsTrue (test place) × (next ≡ None)
 -- files may be written and removed where the test holds
 unfoldable pub changes_at : (Place → Bool) → Permit
 changes_at test place next = IsTrue (test place)
+
+-- No change is requested, and known contents stay the same.
+pub record OnlyReads {F : Type 0} (device : Device F) (old new : F) : Type 0 where
+  pub requests : Requests device no_change old new
+  pub same : device.faithful new → device.contents new ≡ device.contents old

@@ -1,33 +1,15 @@
--- The calls that a folder type declares as valid, and sequences of calls as values.
+-- Calls that are valid for a type of folders, and sequences of calls as values.
 use Rattle.std.specs.Prelude.{ℕ, ◌≡◌, ◌≢◌, ◌<◌, ◌≤◌, List, [], ◌∷◌, Some, Result, Ok, Err}
 use Rattle.std.specs.Prelude.{⊤, length}
 use Rattle.std.specs.List.{AllPass}
 use Rattle.std.specs.List.Sorted.{IsStrictlySortedBy}
 use Rattle.gb_core.specs.Lists.{byte_order}
 use Rattle.gb_core.specs.Place.{is_under}
-use Rattle.gb_folder.specs.Calls.{Call, Lists, Reads, ReadsPart, Writes, Removes, fault_of}
-use Rattle.gb_folder.specs.Files.{Bytes, Contents, HasRisen, Place, SameTearing, Tearing}
+use Rattle.gb_folder.specs.Calls.{Call, Device, Lists, Reads, ReadsPart, Writes, Removes, fault_of}
+use Rattle.gb_folder.specs.Files.{Bytes, HasRisen, Place, SameTearing}
 use Rattle.gb_folder.specs.Semantics.{Answer, Answers}
 use Rattle.gb_folder.specs.declared.folder.FolderFault.{FolderFault}
 use Rattle.gb_folder.specs.declared.folder.FolderFault.TheVariants as folders
-
--- the declarations of a folder type about itself
-pub record Device (F : Type 0) : Type 1 where
-  pub failures : F → ℕ
-  pub may_leave : F → Tearing
-  pub allowed : F → Call → F → Type 0
-  pub faithful : F → Type 0
-  pub contents : F → Contents
-
-abbrev pub device_of : {F : Type 0} → (F → ℕ) → (F → Tearing) → (F → Call → F → Type 0) → (F → Type 0)
-    → (F → Contents) → Device F
-device_of failures may_leave allowed faithful contents = record {
-  failures = failures;
-  may_leave = may_leave;
-  allowed = allowed;
-  faithful = faithful;
-  contents = contents;
-}
 
 -- ---- Answers that no folder gives, whatever its contents
 

@@ -89,15 +89,15 @@ impl<F: Folder + Drop> FaultyFolder<F> {
     fn tear(&mut self, place: &Place)
         ensures plan { self.new.plan ≡ self.old.plan }
         ensures whole { tears self.old.plan ≡ false → self.new.inner ≡ self.old.inner }
-        ensures count { F.failures self.old.inner ≤ F.failures self.new.inner }
-        ensures tearing { SameTearing (F.may_leave self.old.inner) (F.may_leave self.new.inner) }
-        ensures back { F.faithful self.new.inner → F.faithful self.old.inner }
-        ensures torn { F.faithful self.new.inner → (next : List ℕ)
-            → let files = (F.contents self.old.inner).files in
+        ensures count { F.device.failures self.old.inner ≤ F.device.failures self.new.inner }
+        ensures tearing { SameTearing (F.device.may_leave self.old.inner) (F.device.may_leave self.new.inner) }
+        ensures back { F.device.faithful self.new.inner → F.device.faithful self.old.inner }
+        ensures torn { F.device.faithful self.new.inner → (next : List ℕ)
+            → let files = (F.device.contents self.old.inner).files in
             (left : Option (List ℕ))
-            × may_leave_by self.old.plan.mode (F.may_leave self.old.inner) place.now
+            × may_leave_by self.old.plan.mode (F.device.may_leave self.old.inner) place.now
             (file_at files place.now) (Some next) left
-            × (F.contents self.new.inner ≡ record (F.contents self.old.inner) {
+            × (F.device.contents self.new.inner ≡ record (F.device.contents self.old.inner) {
               files = with_left files place.now left;
             }) }
     {
@@ -113,31 +113,19 @@ impl<F: Folder + Drop> FaultyFolder<F> {
 impl<F: Folder + Drop> Folder for FaultyFolder<F> {
     ghost use Rattle.gb_folder.specs.Calls.{fault_of};
     ghost use Rattle.gb_folder.specs.Faulty.{CallOf, failures_in_all, may_leave_by};
-    ghost use Rattle.gb_folder.specs.Device.{device_of};
 
-    ghost failures = { λ f. failures_in_all (F.failures f.inner) f.plan.failed };
-
-    ghost faithful = { λ f. F.faithful f.inner };
-
-    ghost contents = { λ f. F.contents f.inner };
-
-    ghost may_leave = { λ f. may_leave_by f.plan.mode (F.may_leave f.inner) };
-
-    ghost allowed = { λ old call new. CallOf old.plan (fault_of call) new.plan
-        (new.inner ≡ old.inner) (F.allowed old.inner call new.inner) };
-
-    ghost device = { device_of (λ f. failures_in_all (F.failures f.inner) f.plan.failed)
-        (λ f. may_leave_by f.plan.mode (F.may_leave f.inner))
-        (λ old call new. CallOf old.plan (fault_of call) new.plan (new.inner ≡ old.inner)
-        (F.allowed old.inner call new.inner)) (λ f. F.faithful f.inner) (λ f. F.contents f.inner) };
+    ghost device = { record {
+      failures = λ f. failures_in_all (F.device.failures f.inner) f.plan.failed;
+      may_leave = λ f. may_leave_by f.plan.mode (F.device.may_leave f.inner);
+      allowed = λ old call new. CallOf old.plan (fault_of call) new.plan (new.inner ≡ old.inner)
+          (F.device.allowed old.inner call new.inner);
+      faithful = λ f. F.device.faithful f.inner;
+      contents = λ f. F.device.contents f.inner;
+    } };
 
     ghost sound = { λ f. F.sound f.inner };
 
     ghost placed = { λ f. F.placed f.inner };
-
-    ghost called = { λ _ _ _ is. is };
-
-    ghost said = { λ _ _ _ is. is };
 
     fn list(&mut self, alloc: Global, root: &Place) -> Result<Vec<Place>, FolderFault> {
         if self.plan.fails() {

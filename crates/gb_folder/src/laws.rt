@@ -10,13 +10,13 @@ use crate::folder::Folder;
 
 /// A folder with known contents answers each call by them, as the calls before it left them.
 pub fn calls_are_exact<F: Folder>()
-    ensures { (old new : F) (calls : List Call) → F.faithful new → Leads F.device old calls new
-        → AnswersAll (F.may_leave old) (F.contents old) calls (F.contents new) }
+    ensures { (old new : F) (calls : List Call) → F.device.faithful new → Leads F.device old calls new
+        → AnswersAll (F.device.may_leave old) (F.device.contents old) calls (F.device.contents new) }
 {}
 
 /// Calls that change files only where a test holds request no other change.
 pub fn calls_ask_for_no_more<F: Folder>()
     ensures { (test : Place → Bool) (old new : F) (calls : List Call)
         → AllByRecursion (IsPermitted (changes_at test)) calls → Leads F.device old calls new
-        → Requests F.failures F.may_leave F.allowed (changes_at test) old new }
+        → Requests F.device (changes_at test) old new }
 {}

@@ -64,30 +64,19 @@ fn note_of(place: &Place, next: Option<Bytes>) -> Result<Note, AllocError>
 
 impl<F: Folder + Drop> Folder for NotedFolder<F> {
     ghost use Rattle.gb_folder.specs.Noted.{IsNoted};
-    ghost use Rattle.gb_folder.specs.Device.{device_of};
 
-    ghost failures = { λ f. F.failures f.inner };
-
-    ghost faithful = { λ f. F.faithful f.inner };
-
-    ghost contents = { λ f. F.contents f.inner };
-
-    ghost may_leave = { λ f. F.may_leave f.inner };
-
-    ghost allowed = { λ old call new. IsNoted call old.notes.items new.notes.items
-        (new.inner ≡ old.inner) (F.allowed old.inner call new.inner) };
-
-    ghost device = { device_of (λ f. F.failures f.inner) (λ f. F.may_leave f.inner)
-        (λ old call new. IsNoted call old.notes.items new.notes.items (new.inner ≡ old.inner)
-        (F.allowed old.inner call new.inner)) (λ f. F.faithful f.inner) (λ f. F.contents f.inner) };
+    ghost device = { record {
+      failures = λ f. F.device.failures f.inner;
+      may_leave = λ f. F.device.may_leave f.inner;
+      allowed = λ old call new. IsNoted call old.notes.items new.notes.items (new.inner ≡ old.inner)
+          (F.device.allowed old.inner call new.inner);
+      faithful = λ f. F.device.faithful f.inner;
+      contents = λ f. F.device.contents f.inner;
+    } };
 
     ghost sound = { λ f. F.sound f.inner };
 
     ghost placed = { λ f. F.placed f.inner };
-
-    ghost called = { λ _ _ _ is. is };
-
-    ghost said = { λ _ _ _ is. is };
 
     fn list(&mut self, alloc: Global, root: &Place) -> Result<Vec<Place>, FolderFault> {
         self.inner.list(alloc, root)

@@ -3,7 +3,7 @@ use Rattle.std.specs.Prelude.{◌≡◌, ◌⊎◌, Result, Err, IfOk}
 use Rattle.gb_answers.specs.Scratch.{LeavesFromScratch}
 use Rattle.gb_build.specs.Invoking.{IsInvocation}
 use Rattle.gb_command.specs.Answered.{Answers, AreRefused, AskFor, Given}
-use Rattle.gb_disk.specs.Called.{IsAsSupposed, calls_of, contents_of, failures_of, is_next, may_leave_of}
+use Rattle.gb_disk.specs.Called.{IsAsSupposed, calls_of, contents_of, disk_device, failures_of, may_leave_of}
 use Rattle.gb_disk.specs.Called.{supposed_of}
 use Rattle.gb_disk.specs.declared.disk.DiskFolder.{DiskFolder}
 use Rattle.gb_folder.specs.Calls.{Requests, no_change}
@@ -33,7 +33,7 @@ abbrev pub IsBuiltOnDisk : {R M N Z S A : Type 0} → Tables M N Z S A → Given
     → DiskFolder R → DiskFolder R → Type 0
 IsBuiltOnDisk tables given answer old new =
     ((fault : Fault) × AreRefused given fault × (answer ≡ Err fault)
-    × Requests failures_of may_leave_of is_next no_change old new)
+    × Requests disk_device no_change old new)
     ⊎ ((asked : Invocation) × AskFor given asked
-    × IsInvocation failures_of may_leave_of is_next tables asked answer old new
+    × IsInvocation disk_device tables asked answer old new
     × IfOk answer (λ report. LeavesFromScratch tables (may_leave_of old) asked report (calls_of new)))

@@ -14,6 +14,7 @@ use Rattle.gb_tree.specs.Answered.{IsTreeRead, WereObserved}
 use Rattle.gb_tree.specs.Reading.{entries_observed}
 use Rattle.gb_label.specs.ReadingAnswered.{AreInputsAnswered, AreInputsRead, AreOutputsAnswered, AreOutputsRead, IsInputAnswered, IsInputRead, IsOutputAnswered, IsOutputRead}
 use Rattle.gb_label.specs.Reading.{Read}
+use Rattle.gb_folder.specs.Calls.{Device}
 
 -- ---- Lists in parallel
 
@@ -49,35 +50,35 @@ firsts_made R S (x ∷ xs) [] made all so_far = absurd all
 firsts_made R S (x ∷ xs) (y ∷ ys) [] all so_far = absurd so_far
 firsts_made R S (x ∷ xs) (y ∷ ys) (z ∷ made) all so_far = (so_far.0, firsts_made R S xs ys made all.1 so_far.1)
 
-module _ {F : Type 0} {failures : F → ℕ} {may_leave : F → Tearing} {allowed : F → Call → F → Type 0} where
+module _ {F : Type 0} {device : Device F} where
   -- ---- One property, and one output
 
-  pub input_longer : {first old new end : F} → Requests failures may_leave allowed no_change first old → Requests failures may_leave allowed no_change new end
-      → (property : FileProperty) (reading : Read) → IsInputAnswered failures may_leave allowed old new property reading
-      → IsInputAnswered failures may_leave allowed first end property reading
+  pub input_longer : {first old new end : F} → Requests device no_change first old → Requests device no_change new end
+      → (property : FileProperty) (reading : Read) → IsInputAnswered device old new property reading
+      → IsInputAnswered device first end property reading
   input_longer before following property reading was = (
     entries_longer before following property.naming property.roots property.include property.exclude (entries_observed reading.1) was.0,
     all_observed_longer before following reading.1 was.1,
   )
 
-  pub output_longer : {first old new end : F} → Requests failures may_leave allowed no_change first old → Requests failures may_leave allowed no_change new end
-      → (output : Output) (reading : Read) → IsOutputAnswered failures may_leave allowed old new output reading
-      → IsOutputAnswered failures may_leave allowed first end output reading
+  pub output_longer : {first old new end : F} → Requests device no_change first old → Requests device no_change new end
+      → (output : Output) (reading : Read) → IsOutputAnswered device old new output reading
+      → IsOutputAnswered device first end output reading
   output_longer before following output reading was =
       (output_entries_longer before following output.place (entries_observed reading.1) was.0, all_observed_longer before following reading.1 was.1)
 
-  pub tree_read_longer : {first old new end : F} → Requests failures may_leave allowed no_change first old → Requests failures may_leave allowed no_change new end
-      → (property : FileProperty) (tree : List ℕ × Files) → IsInputRead failures may_leave allowed old new property tree
-      → IsInputRead failures may_leave allowed first end property tree
+  pub tree_read_longer : {first old new end : F} → Requests device no_change first old → Requests device no_change new end
+      → (property : FileProperty) (tree : List ℕ × Files) → IsInputRead device old new property tree
+      → IsInputRead device first end property tree
   tree_read_longer before following property tree was = (
     was.0,
     entries_longer before following property.naming property.roots property.include property.exclude was.0 was.1,
     tree_longer before following was.0 tree.1 was.2,
   )
 
-  pub files_read_longer : {first old new end : F} → Requests failures may_leave allowed no_change first old → Requests failures may_leave allowed no_change new end
-      → (output : Output) (observed : OutputFiles) → IsOutputRead failures may_leave allowed old new output observed
-      → IsOutputRead failures may_leave allowed first end output observed
+  pub files_read_longer : {first old new end : F} → Requests device no_change first old → Requests device no_change new end
+      → (output : Output) (observed : OutputFiles) → IsOutputRead device old new output observed
+      → IsOutputRead device first end output observed
   files_read_longer before following output observed was = (
     was.0,
     output_entries_longer before following output.place was.0 was.1,
@@ -85,20 +86,20 @@ module _ {F : Type 0} {failures : F → ℕ} {may_leave : F → Tearing} {allowe
   )
 
   -- one that was answered, and is completed later
-  pub input_completed : {first old mid new : F} → Requests failures may_leave allowed no_change old mid → Requests failures may_leave allowed no_change mid new
+  pub input_completed : {first old mid new : F} → Requests device no_change old mid → Requests device no_change mid new
       → (property : FileProperty) (reading : Read) (tree : List ℕ × Files)
-      → (WereObserved failures may_leave allowed first mid reading.1 → IsTreeRead failures may_leave allowed first new (entries_observed reading.1) tree.1)
-      → IsInputAnswered failures may_leave allowed first old property reading → IsInputRead failures may_leave allowed first new property tree
+      → (WereObserved device first mid reading.1 → IsTreeRead device first new (entries_observed reading.1) tree.1)
+      → IsInputAnswered device first old property reading → IsInputRead device first new property tree
   input_completed {first = first} before now property reading tree completes was = (
     entries_observed reading.1,
     entries_longer (requests_nothing first) (requests_then before now) property.naming property.roots property.include property.exclude (entries_observed reading.1) was.0,
     completes (all_observed_longer (requests_nothing first) before reading.1 was.1),
   )
 
-  pub output_completed : {first old mid new : F} → Requests failures may_leave allowed no_change old mid → Requests failures may_leave allowed no_change mid new
+  pub output_completed : {first old mid new : F} → Requests device no_change old mid → Requests device no_change mid new
       → (output : Output) (reading : Read) (observed : OutputFiles)
-      → (WereObserved failures may_leave allowed first mid reading.1 → IsTreeRead failures may_leave allowed first new (entries_observed reading.1) observed.files)
-      → IsOutputAnswered failures may_leave allowed first old output reading → IsOutputRead failures may_leave allowed first new output observed
+      → (WereObserved device first mid reading.1 → IsTreeRead device first new (entries_observed reading.1) observed.files)
+      → IsOutputAnswered device first old output reading → IsOutputRead device first new output observed
   output_completed {first = first} before now output reading observed completes was = (
     entries_observed reading.1,
     output_entries_longer (requests_nothing first) (requests_then before now) output.place (entries_observed reading.1) was.0,
@@ -107,40 +108,40 @@ module _ {F : Type 0} {failures : F → ℕ} {may_leave : F → Tearing} {allowe
 
   -- ---- All of a task
 
-  pub inputs_longer : {first old new end : F} → Requests failures may_leave allowed no_change first old → Requests failures may_leave allowed no_change new end
-      → (task : Task) (readings : List Read) → AreInputsAnswered failures may_leave allowed old new task readings
-      → AreInputsAnswered failures may_leave allowed first end task readings
+  pub inputs_longer : {first old new end : F} → Requests device no_change first old → Requests device no_change new end
+      → (task : Task) (readings : List Read) → AreInputsAnswered device old new task readings
+      → AreInputsAnswered device first end task readings
   inputs_longer {first = first} {old = old} {new = new} {end = end} before following task readings were =
-      all_zip_more (IsInputAnswered failures may_leave allowed old new) (IsInputAnswered failures may_leave allowed first end) (input_longer before following)
+      all_zip_more (IsInputAnswered device old new) (IsInputAnswered device first end) (input_longer before following)
       task.files readings were
 
-  pub outputs_longer : {first old new end : F} → Requests failures may_leave allowed no_change first old → Requests failures may_leave allowed no_change new end
-      → (task : Task) (readings : List Read) → AreOutputsAnswered failures may_leave allowed old new task readings
-      → AreOutputsAnswered failures may_leave allowed first end task readings
+  pub outputs_longer : {first old new end : F} → Requests device no_change first old → Requests device no_change new end
+      → (task : Task) (readings : List Read) → AreOutputsAnswered device old new task readings
+      → AreOutputsAnswered device first end task readings
   outputs_longer {first = first} {old = old} {new = new} {end = end} before following task readings were =
-      all_zip_more (IsOutputAnswered failures may_leave allowed old new) (IsOutputAnswered failures may_leave allowed first end) (output_longer before following)
+      all_zip_more (IsOutputAnswered device old new) (IsOutputAnswered device first end) (output_longer before following)
       task.outputs readings were
 
-  pub trees_longer : {first old new end : F} → Requests failures may_leave allowed no_change first old → Requests failures may_leave allowed no_change new end
-      → (task : Task) (trees : Trees) → AreInputsRead failures may_leave allowed old new task trees
-      → AreInputsRead failures may_leave allowed first end task trees
+  pub trees_longer : {first old new end : F} → Requests device no_change first old → Requests device no_change new end
+      → (task : Task) (trees : Trees) → AreInputsRead device old new task trees
+      → AreInputsRead device first end task trees
   trees_longer {first = first} {old = old} {new = new} {end = end} before following task trees were =
-      all_zip_more (IsInputRead failures may_leave allowed old new) (IsInputRead failures may_leave allowed first end) (tree_read_longer before following)
+      all_zip_more (IsInputRead device old new) (IsInputRead device first end) (tree_read_longer before following)
       task.files trees were
 
-  pub files_longer : {first old new end : F} → Requests failures may_leave allowed no_change first old → Requests failures may_leave allowed no_change new end
-      → (task : Task) (observed : List OutputFiles) → AreOutputsRead failures may_leave allowed old new task observed
-      → AreOutputsRead failures may_leave allowed first end task observed
+  pub files_longer : {first old new end : F} → Requests device no_change first old → Requests device no_change new end
+      → (task : Task) (observed : List OutputFiles) → AreOutputsRead device old new task observed
+      → AreOutputsRead device first end task observed
   files_longer {first = first} {old = old} {new = new} {end = end} before following task observed were =
-      all_zip_more (IsOutputRead failures may_leave allowed old new) (IsOutputRead failures may_leave allowed first end) (files_read_longer before following)
+      all_zip_more (IsOutputRead device old new) (IsOutputRead device first end) (files_read_longer before following)
       task.outputs observed were
 
 -- ---- What may be remembered of them
 
 -- the files of each output were read
-pub outputs_were_read : {F : Type 0} (failures : F → ℕ) (may_leave : F → Tearing) (allowed : F → Call → F → Type 0) (old new : F) (outputs : List Output) (readings : List Read)
-    → AllZip (IsOutputAnswered failures may_leave allowed old new) outputs readings → AllByRecursion (λ reading. WereObserved failures may_leave allowed old new reading.1) readings
-outputs_were_read failures may_leave allowed old new [] [] all = tt
-outputs_were_read failures may_leave allowed old new [] (reading ∷ readings) all = absurd all
-outputs_were_read failures may_leave allowed old new (output ∷ outputs) [] all = absurd all
-outputs_were_read failures may_leave allowed old new (output ∷ outputs) (reading ∷ readings) all = (all.0.1, outputs_were_read failures may_leave allowed old new outputs readings all.1)
+pub outputs_were_read : {F : Type 0} (device : Device F) (old new : F) (outputs : List Output) (readings : List Read)
+    → AllZip (IsOutputAnswered device old new) outputs readings → AllByRecursion (λ reading. WereObserved device old new reading.1) readings
+outputs_were_read device old new [] [] all = tt
+outputs_were_read device old new [] (reading ∷ readings) all = absurd all
+outputs_were_read device old new (output ∷ outputs) [] all = absurd all
+outputs_were_read device old new (output ∷ outputs) (reading ∷ readings) all = (all.0.1, outputs_were_read device old new outputs readings all.1)

@@ -17,30 +17,31 @@ use Rattle.gb_label.specs.declared.early_outcomes.EarlyCase.{EarlyCase}
 use Rattle.gb_label.specs.declared.early_outcomes.EarlyCase.TheVariants as early_cases
 use Rattle.gb_label.specs.declared.prepare.Prepared.{Prepared}
 use Rattle.gb_label.specs.declared.prepare.Prepared.TheVariants as prepared
+use Rattle.gb_folder.specs.Calls.{Device}
 
 -- inputs were answered that give the task no source
-abbrev pub WasSourceless : {F : Type 0} → (F → ℕ) → (F → Tearing) → (F → Call → F → Type 0) → F → F → Task
+abbrev pub WasSourceless : {F : Type 0} → Device F → F → F → Task
     → Type 0
-WasSourceless failures may_leave allowed old new task =
-    (inputs : List Read) × AreInputsAnswered failures may_leave allowed old new task inputs
+WasSourceless device old new task =
+    (inputs : List Read) × AreInputsAnswered device old new task inputs
     × (lacks_source task.files inputs ≡ true)
 
 -- inputs were answered that give it a source
-abbrev pub WasSourced : {F : Type 0} → (F → ℕ) → (F → Tearing) → (F → Call → F → Type 0) → F → F → Task
+abbrev pub WasSourced : {F : Type 0} → Device F → F → F → Task
     → Type 0
-WasSourced failures may_leave allowed old new task =
-    (inputs : List Read) × AreInputsAnswered failures may_leave allowed old new task inputs
+WasSourced device old new task =
+    (inputs : List Read) × AreInputsAnswered device old new task inputs
     × (lacks_source task.files inputs ≡ false)
 
 -- If its record is to decide, its inputs were answered, and if it has no source they were found so.
-abbrev pub IsEarlyCaseRead : {F : Type 0} → (F → ℕ) → (F → Tearing) → (F → Call → F → Type 0) → F → F → Task
+abbrev pub IsEarlyCaseRead : {F : Type 0} → Device F → F → F → Task
     → EarlyCase → Type 0
-IsEarlyCaseRead failures may_leave allowed old new task early_cases.Skips = ⊤
-IsEarlyCaseRead failures may_leave allowed old new task early_cases.HasNoActions = ⊤
-IsEarlyCaseRead failures may_leave allowed old new task early_cases.HasNoSource =
-    WasSourceless failures may_leave allowed old new task
-IsEarlyCaseRead failures may_leave allowed old new task (early_cases.Open inputs) =
-    AreInputsAnswered failures may_leave allowed old new task inputs.items
+IsEarlyCaseRead device old new task early_cases.Skips = ⊤
+IsEarlyCaseRead device old new task early_cases.HasNoActions = ⊤
+IsEarlyCaseRead device old new task early_cases.HasNoSource =
+    WasSourceless device old new task
+IsEarlyCaseRead device old new task (early_cases.Open inputs) =
+    AreInputsAnswered device old new task inputs.items
 
 -- The record that was read finds the task up to date on inputs and outputs with these digests.
 pub record IsFoundCurrent (options : Options) (task : Task) (last : Option Record)
@@ -53,25 +54,25 @@ pub record IsFoundCurrent (options : Options) (task : Task) (last : Option Recor
 
 -- What was decided on: outputs that were answered, if the decision is based on them. What is up to date was
 -- found so on exactly these and these inputs.
-abbrev pub WasDecided : {F : Type 0} → (F → ℕ) → (F → Tearing) → (F → Call → F → Type 0) → F → F → Options
+abbrev pub WasDecided : {F : Type 0} → Device F → F → F → Options
     → Task → Option Record → List Read → Decision → List Read → Type 0
-WasDecided failures may_leave allowed old new options task last inputs decisions.UpToDate outputs =
-    AreOutputs task outputs × AreOutputsAnswered failures may_leave allowed old new task outputs
+WasDecided device old new options task last inputs decisions.UpToDate outputs =
+    AreOutputs task outputs × AreOutputsAnswered device old new task outputs
     × IsFoundCurrent options task last (prints_read inputs) (prints_read outputs)
-WasDecided failures may_leave allowed old new options task last inputs (decisions.Incremental changes)
+WasDecided device old new options task last inputs (decisions.Incremental changes)
     outputs =
-    AreOutputsAnswered failures may_leave allowed old new task outputs
-WasDecided failures may_leave allowed old new options task last inputs decisions.Full outputs = ⊤
+    AreOutputsAnswered device old new task outputs
+WasDecided device old new options task last inputs decisions.Full outputs = ⊤
 
 -- an execution is prepared on the basis of what was answered
-abbrev pub WasPrepared : {F : Type 0} → (F → ℕ) → (F → Tearing) → (F → Call → F → Type 0) → F → F → Options
+abbrev pub WasPrepared : {F : Type 0} → Device F → F → F → Options
     → Task → Option Record → Prepared → Type 0
-WasPrepared failures may_leave allowed old new options task last prepared.Skips = ⊤
-WasPrepared failures may_leave allowed old new options task last prepared.HasNoActions = ⊤
-WasPrepared failures may_leave allowed old new options task last prepared.HasNoSource =
-    WasSourceless failures may_leave allowed old new task
-WasPrepared failures may_leave allowed old new options task last (prepared.Decided decision basis observed) =
+WasPrepared device old new options task last prepared.Skips = ⊤
+WasPrepared device old new options task last prepared.HasNoActions = ⊤
+WasPrepared device old new options task last prepared.HasNoSource =
+    WasSourceless device old new task
+WasPrepared device old new options task last (prepared.Decided decision basis observed) =
     AreInputs task observed.inputs.items
-    × AreInputsAnswered failures may_leave allowed old new task observed.inputs.items
-    × WasDecided failures may_leave allowed old new options task last observed.inputs.items decision
+    × AreInputsAnswered device old new task observed.inputs.items
+    × WasDecided device old new options task last observed.inputs.items decision
     observed.outputs.items

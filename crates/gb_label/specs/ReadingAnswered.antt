@@ -12,65 +12,66 @@ use Rattle.gb_tree.specs.Answered.{AreEntriesListed, AreOutputEntriesListed, IsT
 use Rattle.gb_tree.specs.Reading.{entries_observed}
 use Rattle.gb_tree.specs.Tree.{Entries}
 use Rattle.gb_label.specs.Reading.{Read}
+use Rattle.gb_folder.specs.Calls.{Device}
 
 -- the entries of a property as the places where it looks for them were listed
-abbrev pub AreEntriesOf : {F : Type 0} → (F → ℕ) → (F → Tearing) → (F → Call → F → Type 0) → F → F
+abbrev pub AreEntriesOf : {F : Type 0} → Device F → F → F
     → FileProperty → Entries → Type 0
-AreEntriesOf failures may_leave allowed old new property entries =
-    AreEntriesListed failures may_leave allowed property.naming property.roots property.include
+AreEntriesOf device old new property entries =
+    AreEntriesListed device property.naming property.roots property.include
     property.exclude
     old new entries
 
 -- ---- Digests, and the bytes that are kept
 
 -- the files of a property were listed, and each was read
-abbrev pub IsInputAnswered : {F : Type 0} → (F → ℕ) → (F → Tearing) → (F → Call → F → Type 0) → F → F
+abbrev pub IsInputAnswered : {F : Type 0} → Device F → F → F
     → FileProperty → Read → Type 0
-IsInputAnswered failures may_leave allowed old new property reading =
-    AreEntriesOf failures may_leave allowed old new property (entries_observed reading.1)
-    × WereObserved failures may_leave allowed old new reading.1
+IsInputAnswered device old new property reading =
+    AreEntriesOf device old new property (entries_observed reading.1)
+    × WereObserved device old new reading.1
 
 -- those of an output were
-abbrev pub IsOutputAnswered : {F : Type 0} → (F → ℕ) → (F → Tearing) → (F → Call → F → Type 0) → F → F
+abbrev pub IsOutputAnswered : {F : Type 0} → Device F → F → F
     → Output → Read → Type 0
-IsOutputAnswered failures may_leave allowed old new output reading =
-    AreOutputEntriesListed failures may_leave allowed old new output.place (entries_observed reading.1)
-    × WereObserved failures may_leave allowed old new reading.1
+IsOutputAnswered device old new output reading =
+    AreOutputEntriesListed device old new output.place (entries_observed reading.1)
+    × WereObserved device old new reading.1
 
 -- those of all properties, and of all outputs, were
-abbrev pub AreInputsAnswered : {F : Type 0} → (F → ℕ) → (F → Tearing) → (F → Call → F → Type 0) → F → F
+abbrev pub AreInputsAnswered : {F : Type 0} → Device F → F → F
     → Task → List Read → Type 0
-AreInputsAnswered failures may_leave allowed old new task readings =
-    AllZip (IsInputAnswered failures may_leave allowed old new) task.files readings
+AreInputsAnswered device old new task readings =
+    AllZip (IsInputAnswered device old new) task.files readings
 
-abbrev pub AreOutputsAnswered : {F : Type 0} → (F → ℕ) → (F → Tearing) → (F → Call → F → Type 0) → F → F
+abbrev pub AreOutputsAnswered : {F : Type 0} → Device F → F → F
     → Task → List Read → Type 0
-AreOutputsAnswered failures may_leave allowed old new task readings =
-    AllZip (IsOutputAnswered failures may_leave allowed old new) task.outputs readings
+AreOutputsAnswered device old new task readings =
+    AllZip (IsOutputAnswered device old new) task.outputs readings
 
 -- ---- Contents
 
 -- the tree of a property, as its files were listed and read
-abbrev pub IsInputRead : {F : Type 0} → (F → ℕ) → (F → Tearing) → (F → Call → F → Type 0) → F → F
+abbrev pub IsInputRead : {F : Type 0} → Device F → F → F
     → FileProperty → List ℕ × Files → Type 0
-IsInputRead failures may_leave allowed old new property tree =
-    (entries : Entries) × AreEntriesOf failures may_leave allowed old new property entries
-    × IsTreeRead failures may_leave allowed old new entries tree.1
+IsInputRead device old new property tree =
+    (entries : Entries) × AreEntriesOf device old new property entries
+    × IsTreeRead device old new entries tree.1
 
 -- the files of an output, as they were listed and read
-abbrev pub IsOutputRead : {F : Type 0} → (F → ℕ) → (F → Tearing) → (F → Call → F → Type 0) → F → F
+abbrev pub IsOutputRead : {F : Type 0} → Device F → F → F
     → Output → OutputFiles → Type 0
-IsOutputRead failures may_leave allowed old new output observed =
-    (entries : Entries) × AreOutputEntriesListed failures may_leave allowed old new output.place entries
-    × IsTreeRead failures may_leave allowed old new entries observed.files
+IsOutputRead device old new output observed =
+    (entries : Entries) × AreOutputEntriesListed device old new output.place entries
+    × IsTreeRead device old new entries observed.files
 
 -- those of all properties, and of all outputs
-abbrev pub AreInputsRead : {F : Type 0} → (F → ℕ) → (F → Tearing) → (F → Call → F → Type 0) → F → F → Task
+abbrev pub AreInputsRead : {F : Type 0} → Device F → F → F → Task
     → Trees → Type 0
-AreInputsRead failures may_leave allowed old new task trees =
-    AllZip (IsInputRead failures may_leave allowed old new) task.files trees
+AreInputsRead device old new task trees =
+    AllZip (IsInputRead device old new) task.files trees
 
-abbrev pub AreOutputsRead : {F : Type 0} → (F → ℕ) → (F → Tearing) → (F → Call → F → Type 0) → F → F → Task
+abbrev pub AreOutputsRead : {F : Type 0} → Device F → F → F → Task
     → List OutputFiles → Type 0
-AreOutputsRead failures may_leave allowed old new task observed =
-    AllZip (IsOutputRead failures may_leave allowed old new) task.outputs observed
+AreOutputsRead device old new task observed =
+    AllZip (IsOutputRead device old new) task.outputs observed

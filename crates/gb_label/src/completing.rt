@@ -1,7 +1,7 @@
 //! Completes one reading for a run.
 ghost use Rattle.std.specs.Prelude.{◌≡◌, IfOk, IfErr};
 ghost use Rattle.std.specs.List.{AllByRecursion};
-ghost use Rattle.gb_folder.specs.Calls.{Requests, no_change};
+ghost use Rattle.gb_folder.specs.Calls.{OnlyReads, Requests, no_change};
 ghost use Rattle.gb_store.specs.Faults.{Blames, BlamesOnly, IsOfMachine};
 ghost use Rattle.gb_tree.specs.Answered.{IsTreeRead, WereObserved};
 ghost use Rattle.gb_tree.specs.Prints.{digests_of};
@@ -22,25 +22,23 @@ pub(crate) fn complete<F: Folder>(
     folder: &mut F,
     reading: Reading,
 ) -> Result<(Snapshot, Prints), Fault>
-    ensures requests { Requests F.failures F.may_leave F.allowed no_change folder.old folder.new }
-    ensures back { F.faithful folder.new → F.faithful folder.old }
-    ensures blame { Blames result (F.failures folder.old) (F.failures folder.new) }
+    ensures reads { OnlyReads F.device folder.old folder.new }
+    ensures blame { Blames result (F.device.failures folder.old) (F.device.failures folder.new) }
     ensures blamed { BlamesOnly (is_among (entries_observed reading.1)) result }
-    ensures same { F.faithful folder.new → F.contents folder.new ≡ F.contents folder.old }
     ensures named { IfOk result (λ made. made.0.0 ≡ reading.0) }
     ensures digests { IfOk result (λ made. made.1 ≡ (reading.0, digests_of made.0.1)) }
     // Over any folder: what was answered before, and what is answered now for the rest.
-    ensures answered { (first : _) → Requests F.failures F.may_leave F.allowed no_change first folder.old
-        → WereObserved F.failures F.may_leave F.allowed first folder.old reading.1
-        → IfOk result (λ made. IsTreeRead F.failures F.may_leave F.allowed first folder.new
+    ensures answered { (first : _) → Requests F.device no_change first folder.old
+        → WereObserved F.device first folder.old reading.1
+        → IfOk result (λ made. IsTreeRead F.device first folder.new
         (entries_observed reading.1) made.0.1) }
-    ensures tree { F.faithful folder.new
-        → AllByRecursion (IsObservedIn (F.contents folder.old).files) reading.1
+    ensures tree { F.device.faithful folder.new
+        → AllByRecursion (IsObservedIn (F.device.contents folder.old).files) reading.1
         → IfOk result
-        (λ made. made.0.1 ≡ contents_at (F.contents folder.old).files (entries_observed reading.1)) }
-    ensures err { F.faithful folder.new
-        → AllByRecursion (IsObservedIn (F.contents folder.old).files) reading.1
-        → IfErr result (IsOfMachine (F.failures folder.old) (F.failures folder.new)) }
+        (λ made. made.0.1 ≡ contents_at (F.device.contents folder.old).files (entries_observed reading.1)) }
+    ensures err { F.device.faithful folder.new
+        → AllByRecursion (IsObservedIn (F.device.contents folder.old).files) reading.1
+        → IfErr result (IsOfMachine (F.device.failures folder.old) (F.device.failures folder.new)) }
 {
     match reading.completed(alloc, folder) {
         Ok(made) => Ok(made),

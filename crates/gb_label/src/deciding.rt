@@ -1,7 +1,7 @@
 //! The decision on a task by its record.
 ghost use Rattle.std.specs.Prelude.{◌≡◌, ◌⊎◌, [], false, map, Some, IfOk, IfErr, OnOk, option_copied};
 ghost use Rattle.std.specs.List.{flat_map, list_any};
-ghost use Rattle.gb_folder.specs.Calls.{Requests, no_change};
+ghost use Rattle.gb_folder.specs.Calls.{OnlyReads, Requests, no_change};
 ghost use Rattle.gb_folder.specs.Files.{is_empty, is_own};
 ghost use Rattle.gb_history.specs.Decision.{DecidesFrom};
 ghost use Rattle.gb_history.specs.Record.{prints_in};
@@ -82,9 +82,8 @@ pub fn decided<F: Folder>(
 ) -> Result<Verdict, Fault>
     requires in_order { HasNamesInOrder task.now }
     requires named { map (λ found. found.0) inputs.now ≡ map (λ property. property.name) task.now.files }
-    ensures requests { Requests F.failures F.may_leave F.allowed no_change folder.old folder.new }
-    ensures back { F.faithful folder.new → F.faithful folder.old }
-    ensures blame { Blames result (F.failures folder.old) (F.failures folder.new) }
+    ensures reads { OnlyReads F.device folder.old folder.new }
+    ensures blame { Blames result (F.device.failures folder.old) (F.device.failures folder.new) }
     ensures blamed { BlamesOnly (is_output_of task.now) result }
     // Over any folder: the decision follows from what it is based on.
     ensures goes_by { IfOk result (λ found.
@@ -93,24 +92,24 @@ pub fn decided<F: Folder>(
     ensures may_decide { IfOk result (λ found. MayDecide options task.now found.decision) }
     // Over any folder: if it may execute incrementally, its outputs were read.
     ensures read { IfOk result (λ found. AreOutputsFor task.now found.decision found.outputs.items) }
-    ensures answered { (first : _) → Requests F.failures F.may_leave F.allowed no_change first folder.old
-        → AreSeen F.failures F.may_leave F.allowed first folder.old seen.now
-        → IfOk result (λ found. WasDecided F.failures F.may_leave F.allowed first folder.new
+    ensures answered { (first : _) → Requests F.device no_change first folder.old
+        → AreSeen F.device first folder.old seen.now
+        → IfOk result (λ found. WasDecided F.device first folder.new
         options task.now (option_copied old.entry) inputs.now found.decision found.outputs.items) }
-    ensures same { F.faithful folder.new → F.contents folder.new ≡ F.contents folder.old }
-    ensures based { F.faithful folder.new → AreSeenIn (F.contents folder.old).files seen.now
-        → prints_read inputs.now ≡ digests_in (trees_of task.now (F.contents folder.old).files)
-        → IfOk result (λ found. IsBasisIn options task.now (F.contents folder.old) found.basis) }
-    ensures observed { F.faithful folder.new → AreSeenIn (F.contents folder.old).files seen.now
+    ensures based { F.device.faithful folder.new → AreSeenIn (F.device.contents folder.old).files seen.now
+        → prints_read inputs.now ≡ digests_in (trees_of task.now (F.device.contents folder.old).files)
+        → IfOk result (λ found. IsBasisIn options task.now (F.device.contents folder.old) found.basis) }
+    ensures observed { F.device.faithful folder.new → AreSeenIn (F.device.contents folder.old).files seen.now
         → IfOk result
-        (λ found. AreOutputsObservedFor task.now (F.contents folder.old).files found.decision
+        (λ found. AreOutputsObservedFor task.now (F.device.contents folder.old).files found.decision
         found.outputs.items) }
-    ensures none_special { F.faithful folder.new → AreSeenIn (F.contents folder.old).files seen.now
+    ensures none_special { F.device.faithful folder.new → AreSeenIn (F.device.contents folder.old).files
+        seen.now
         → OnOk result
-        (listing_faults task.now (F.contents folder.old) ≡ []) }
-    ensures err { F.faithful folder.new → AreSeenIn (F.contents folder.old).files seen.now
-        → IfErr result (CannotRead (F.failures folder.old) (F.failures folder.new)
-        (listing_faults task.now (F.contents folder.old))) }
+        (listing_faults task.now (F.device.contents folder.old) ≡ []) }
+    ensures err { F.device.faithful folder.new → AreSeenIn (F.device.contents folder.old).files seen.now
+        → IfErr result (CannotRead (F.device.failures folder.old) (F.device.failures folder.new)
+        (listing_faults task.now (F.device.contents folder.old))) }
 {
     let Some(run) = old else {
         return in_full(alloc, folder, task, FullReason::NoRecord);
@@ -131,18 +130,16 @@ fn in_full<F: Folder>(
     task: &TaskDeclaration,
     cause: FullReason,
 ) -> Result<Verdict, Fault>
-    ensures requests { Requests F.failures F.may_leave F.allowed no_change folder.old folder.new }
-    ensures back { F.faithful folder.new → F.faithful folder.old }
-    ensures blame { Blames result (F.failures folder.old) (F.failures folder.new) }
+    ensures reads { OnlyReads F.device folder.old folder.new }
+    ensures blame { Blames result (F.device.failures folder.old) (F.device.failures folder.new) }
     ensures blamed { BlamesOnly (is_output_of task.now) result }
-    ensures same { F.faithful folder.new → F.contents folder.new ≡ F.contents folder.old }
     ensures full { IfOk result (λ found.
         (found.decision ≡ Decision.Full) × (found.basis ≡ Basis.Forced cause)) }
-    ensures none_special { F.faithful folder.new → OnOk result
-        (listing_faults task.now (F.contents folder.old) ≡ []) }
-    ensures err { F.faithful folder.new
-        → IfErr result (CannotRead (F.failures folder.old) (F.failures folder.new)
-        (listing_faults task.now (F.contents folder.old))) }
+    ensures none_special { F.device.faithful folder.new → OnOk result
+        (listing_faults task.now (F.device.contents folder.old) ≡ []) }
+    ensures err { F.device.faithful folder.new
+        → IfErr result (CannotRead (F.device.failures folder.old) (F.device.failures folder.new)
+        (listing_faults task.now (F.device.contents folder.old))) }
 {
     check_outputs(alloc, folder, task)?;
     Ok(Verdict {
@@ -166,32 +163,31 @@ fn by_record<F: Folder>(
     requires in_order { HasNamesInOrder task.now }
     requires named { map (λ found. found.0) inputs.now ≡ map (λ property. property.name) task.now.files }
     requires counts { (options.rerun ≡ false) × (task.now.is_stale ≡ false) }
-    ensures requests { Requests F.failures F.may_leave F.allowed no_change folder.old folder.new }
-    ensures back { F.faithful folder.new → F.faithful folder.old }
-    ensures blame { Blames result (F.failures folder.old) (F.failures folder.new) }
+    ensures reads { OnlyReads F.device folder.old folder.new }
+    ensures blame { Blames result (F.device.failures folder.old) (F.device.failures folder.new) }
     ensures blamed { BlamesOnly (is_output_of task.now) result }
     ensures goes_by { IfOk result (λ found.
         FollowsFrom options task.now (Some run.now) found.decision found.basis) }
     ensures may_decide { IfOk result (λ found. MayDecide options task.now found.decision) }
     ensures read { IfOk result (λ found. AreOutputsFor task.now found.decision found.outputs.items) }
-    ensures answered { (first : _) → Requests F.failures F.may_leave F.allowed no_change first folder.old
-        → AreSeen F.failures F.may_leave F.allowed first folder.old seen.now
-        → IfOk result (λ found. WasDecided F.failures F.may_leave F.allowed first folder.new
+    ensures answered { (first : _) → Requests F.device no_change first folder.old
+        → AreSeen F.device first folder.old seen.now
+        → IfOk result (λ found. WasDecided F.device first folder.new
         options task.now (Some run.now) inputs.now found.decision found.outputs.items) }
-    ensures same { F.faithful folder.new → F.contents folder.new ≡ F.contents folder.old }
-    ensures based { F.faithful folder.new → AreSeenIn (F.contents folder.old).files seen.now
-        → prints_read inputs.now ≡ digests_in (trees_of task.now (F.contents folder.old).files)
-        → IfOk result (λ found. IsBasisIn options task.now (F.contents folder.old) found.basis) }
-    ensures observed { F.faithful folder.new → AreSeenIn (F.contents folder.old).files seen.now
+    ensures based { F.device.faithful folder.new → AreSeenIn (F.device.contents folder.old).files seen.now
+        → prints_read inputs.now ≡ digests_in (trees_of task.now (F.device.contents folder.old).files)
+        → IfOk result (λ found. IsBasisIn options task.now (F.device.contents folder.old) found.basis) }
+    ensures observed { F.device.faithful folder.new → AreSeenIn (F.device.contents folder.old).files seen.now
         → IfOk result
-        (λ found. AreOutputsObservedFor task.now (F.contents folder.old).files found.decision
+        (λ found. AreOutputsObservedFor task.now (F.device.contents folder.old).files found.decision
         found.outputs.items) }
-    ensures none_special { F.faithful folder.new → AreSeenIn (F.contents folder.old).files seen.now
+    ensures none_special { F.device.faithful folder.new → AreSeenIn (F.device.contents folder.old).files
+        seen.now
         → OnOk result
-        (listing_faults task.now (F.contents folder.old) ≡ []) }
-    ensures err { F.faithful folder.new → AreSeenIn (F.contents folder.old).files seen.now
-        → IfErr result (CannotRead (F.failures folder.old) (F.failures folder.new)
-        (listing_faults task.now (F.contents folder.old))) }
+        (listing_faults task.now (F.device.contents folder.old) ≡ []) }
+    ensures err { F.device.faithful folder.new → AreSeenIn (F.device.contents folder.old).files seen.now
+        → IfErr result (CannotRead (F.device.failures folder.old) (F.device.failures folder.new)
+        (listing_faults task.now (F.device.contents folder.old))) }
 {
     match read_outputs_now(alloc, folder, task, seen, room) {
         Ok(outputs) => {
@@ -219,31 +215,30 @@ fn read_outputs_now<F: Folder>(
     seen: &Seen,
     mut room: u64,
 ) -> Result<Vec<Reading>, Fault>
-    ensures requests { Requests F.failures F.may_leave F.allowed no_change folder.old folder.new }
-    ensures back { F.faithful folder.new → F.faithful folder.old }
-    ensures blame { Blames result (F.failures folder.old) (F.failures folder.new) }
+    ensures reads { OnlyReads F.device folder.old folder.new }
+    ensures blame { Blames result (F.device.failures folder.old) (F.device.failures folder.new) }
     ensures blamed { BlamesOnly (is_output_of task.now) result }
-    ensures same { F.faithful folder.new → F.contents folder.new ≡ F.contents folder.old }
     ensures read { IfOk result (λ found. AreOutputs task.now found.items) }
-    ensures answered { (first : _) → Requests F.failures F.may_leave F.allowed no_change first folder.old
-        → AreSeen F.failures F.may_leave F.allowed first folder.old seen.now
-        → IfOk result (λ found. AreOutputsAnswered F.failures F.may_leave F.allowed
+    ensures answered { (first : _) → Requests F.device no_change first folder.old
+        → AreSeen F.device first folder.old seen.now
+        → IfOk result (λ found. AreOutputsAnswered F.device
         first folder.new task.now found.items) }
-    ensures prints { F.faithful folder.new → AreSeenIn (F.contents folder.old).files seen.now
+    ensures prints { F.device.faithful folder.new → AreSeenIn (F.device.contents folder.old).files seen.now
         → IfOk result (λ found. prints_read found.items
-        ≡ prints_in (map (recorded_of (F.contents folder.old).files) task.now.outputs)) }
-    ensures observed { F.faithful folder.new → AreSeenIn (F.contents folder.old).files seen.now
+        ≡ prints_in (map (recorded_of (F.device.contents folder.old).files) task.now.outputs)) }
+    ensures observed { F.device.faithful folder.new → AreSeenIn (F.device.contents folder.old).files seen.now
         → IfOk result
-        (λ found. AreOutputsObserved task.now (F.contents folder.old).files found.items) }
-    ensures none_special { F.faithful folder.new → AreSeenIn (F.contents folder.old).files seen.now
+        (λ found. AreOutputsObserved task.now (F.device.contents folder.old).files found.items) }
+    ensures none_special { F.device.faithful folder.new → AreSeenIn (F.device.contents folder.old).files
+        seen.now
         → OnOk result
-        (listing_faults task.now (F.contents folder.old) ≡ []) }
-    ensures err { F.faithful folder.new → AreSeenIn (F.contents folder.old).files seen.now
+        (listing_faults task.now (F.device.contents folder.old) ≡ []) }
+    ensures err { F.device.faithful folder.new → AreSeenIn (F.device.contents folder.old).files seen.now
         → IfErr result (λ fault.
         (IsGrown fault
-        × (is_empty (flat_map (print_faults (F.contents folder.old)) task.now.outputs) ≡ false))
-        ⊎ CannotRead (F.failures folder.old) (F.failures folder.new)
-        (listing_faults task.now (F.contents folder.old)) fault) }
+        × (is_empty (flat_map (print_faults (F.device.contents folder.old)) task.now.outputs) ≡ false))
+        ⊎ CannotRead (F.device.failures folder.old) (F.device.failures folder.new)
+        (listing_faults task.now (F.device.contents folder.old)) fault) }
 {
     if has_own(task.outputs.as_slice()) {
         return list_and_read(alloc, folder, task, seen, room);
@@ -260,31 +255,30 @@ fn list_and_read<F: Folder>(
     seen: &Seen,
     mut room: u64,
 ) -> Result<Vec<Reading>, Fault>
-    ensures requests { Requests F.failures F.may_leave F.allowed no_change folder.old folder.new }
-    ensures back { F.faithful folder.new → F.faithful folder.old }
-    ensures blame { Blames result (F.failures folder.old) (F.failures folder.new) }
+    ensures reads { OnlyReads F.device folder.old folder.new }
+    ensures blame { Blames result (F.device.failures folder.old) (F.device.failures folder.new) }
     ensures blamed { BlamesOnly (is_output_of task.now) result }
-    ensures same { F.faithful folder.new → F.contents folder.new ≡ F.contents folder.old }
     ensures read { IfOk result (λ found. AreOutputs task.now found.items) }
-    ensures answered { (first : _) → Requests F.failures F.may_leave F.allowed no_change first folder.old
-        → AreSeen F.failures F.may_leave F.allowed first folder.old seen.now
-        → IfOk result (λ found. AreOutputsAnswered F.failures F.may_leave F.allowed
+    ensures answered { (first : _) → Requests F.device no_change first folder.old
+        → AreSeen F.device first folder.old seen.now
+        → IfOk result (λ found. AreOutputsAnswered F.device
         first folder.new task.now found.items) }
-    ensures prints { F.faithful folder.new → AreSeenIn (F.contents folder.old).files seen.now
+    ensures prints { F.device.faithful folder.new → AreSeenIn (F.device.contents folder.old).files seen.now
         → IfOk result (λ found. prints_read found.items
-        ≡ prints_in (map (recorded_of (F.contents folder.old).files) task.now.outputs)) }
-    ensures observed { F.faithful folder.new → AreSeenIn (F.contents folder.old).files seen.now
+        ≡ prints_in (map (recorded_of (F.device.contents folder.old).files) task.now.outputs)) }
+    ensures observed { F.device.faithful folder.new → AreSeenIn (F.device.contents folder.old).files seen.now
         → IfOk result
-        (λ found. AreOutputsObserved task.now (F.contents folder.old).files found.items) }
-    ensures none_special { F.faithful folder.new → AreSeenIn (F.contents folder.old).files seen.now
+        (λ found. AreOutputsObserved task.now (F.device.contents folder.old).files found.items) }
+    ensures none_special { F.device.faithful folder.new → AreSeenIn (F.device.contents folder.old).files
+        seen.now
         → OnOk result
-        (listing_faults task.now (F.contents folder.old) ≡ []) }
-    ensures err { F.faithful folder.new → AreSeenIn (F.contents folder.old).files seen.now
+        (listing_faults task.now (F.device.contents folder.old) ≡ []) }
+    ensures err { F.device.faithful folder.new → AreSeenIn (F.device.contents folder.old).files seen.now
         → IfErr result (λ fault.
         (IsGrown fault
-        × (is_empty (flat_map (print_faults (F.contents folder.old)) task.now.outputs) ≡ false))
-        ⊎ CannotRead (F.failures folder.old) (F.failures folder.new)
-        (listing_faults task.now (F.contents folder.old)) fault) }
+        × (is_empty (flat_map (print_faults (F.device.contents folder.old)) task.now.outputs) ≡ false))
+        ⊎ CannotRead (F.device.failures folder.old) (F.device.failures folder.new)
+        (listing_faults task.now (F.device.contents folder.old)) fault) }
 {
     check_outputs(alloc, folder, task)?;
     read_outputs(alloc, folder, task, seen, &mut room)

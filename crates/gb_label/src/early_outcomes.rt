@@ -1,7 +1,7 @@
 //! The cases that are decided before any record is considered.
 ghost use Rattle.std.specs.Prelude.{◌≡◌, ◌||◌, true, false, length, IfOk, IfErr, OnErr};
 ghost use Rattle.std.specs.List.{list_all, list_any, zip};
-ghost use Rattle.gb_folder.specs.Calls.{Requests, no_change};
+ghost use Rattle.gb_folder.specs.Calls.{OnlyReads, Requests, no_change};
 ghost use Rattle.gb_folder.specs.Files.{is_empty};
 ghost use Rattle.gb_plan.specs.Task.{is_output_of};
 ghost use Rattle.gb_store.specs.Faults.{Blames, BlamesOnly};
@@ -77,21 +77,20 @@ fn look_at_files<F: Folder>(
 ) -> Result<EarlyCase, Fault>
     requires runs { task.now.runs ≡ true }
     requires acts { is_empty task.now.actions ≡ false }
-    ensures requests { Requests F.failures F.may_leave F.allowed no_change folder.old folder.new }
-    ensures back { F.faithful folder.new → F.faithful folder.old }
-    ensures blame { Blames result (F.failures folder.old) (F.failures folder.new) }
+    ensures reads { OnlyReads F.device folder.old folder.new }
+    ensures blame { Blames result (F.device.failures folder.old) (F.device.failures folder.new) }
     ensures blamed { BlamesOnly (λ place. is_input_of task.now place || is_output_of task.now place) result }
     ensures may_be { IfOk result (MayBe task.now) }
-    ensures answered { (first : _) → Requests F.failures F.may_leave F.allowed no_change first folder.old
-        → AreSeen F.failures F.may_leave F.allowed first folder.old seen.now
+    ensures answered { (first : _) → Requests F.device no_change first folder.old
+        → AreSeen F.device first folder.old seen.now
         → IfOk result
-        (IsEarlyCaseRead F.failures F.may_leave F.allowed first folder.new task.now) }
-    ensures same { F.faithful folder.new → F.contents folder.new ≡ F.contents folder.old }
-    ensures case { F.faithful folder.new → AreSeenIn (F.contents folder.old).files seen.now
-        → IfOk result (IsCase task.now (F.contents folder.old)) }
-    ensures err { F.faithful folder.new → AreSeenIn (F.contents folder.old).files seen.now
+        (IsEarlyCaseRead F.device first folder.new task.now) }
+    ensures case { F.device.faithful folder.new → AreSeenIn (F.device.contents folder.old).files seen.now
+        → IfOk result (IsCase task.now (F.device.contents folder.old)) }
+    ensures err { F.device.faithful folder.new → AreSeenIn (F.device.contents folder.old).files seen.now
         → IfErr result
-        (IsHindered task.now (F.contents folder.old) (F.failures folder.old) (F.failures folder.new)) }
+        (IsHindered task.now (F.device.contents folder.old) (F.device.failures folder.old)
+        (F.device.failures folder.new)) }
 {
     let inputs = read_inputs(alloc, folder, task, seen, &mut room)?;
     if is_without_source(task.files.as_slice(), inputs.as_slice()) {
@@ -112,23 +111,22 @@ pub fn early_case_of<F: Folder>(
     seen: &Seen,
     room: u64,
 ) -> Result<EarlyCase, Fault>
-    ensures requests { Requests F.failures F.may_leave F.allowed no_change folder.old folder.new }
-    ensures back { F.faithful folder.new → F.faithful folder.old }
-    ensures blame { Blames result (F.failures folder.old) (F.failures folder.new) }
+    ensures reads { OnlyReads F.device folder.old folder.new }
+    ensures blame { Blames result (F.device.failures folder.old) (F.device.failures folder.new) }
     ensures blamed { BlamesOnly (λ place. is_input_of task.now place || is_output_of task.now place) result }
     // Over any folder: which of them it may be, and what calls returned for it.
     ensures may_be { IfOk result (MayBe task.now) }
-    ensures answered { (first : _) → Requests F.failures F.may_leave F.allowed no_change first folder.old
-        → AreSeen F.failures F.may_leave F.allowed first folder.old seen.now
+    ensures answered { (first : _) → Requests F.device no_change first folder.old
+        → AreSeen F.device first folder.old seen.now
         → IfOk result
-        (IsEarlyCaseRead F.failures F.may_leave F.allowed first folder.new task.now) }
-    ensures reads { OnErr result ((task.now.runs ≡ true) × (is_empty task.now.actions ≡ false)) }
-    ensures same { F.faithful folder.new → F.contents folder.new ≡ F.contents folder.old }
-    ensures case { F.faithful folder.new → AreSeenIn (F.contents folder.old).files seen.now
-        → IfOk result (IsCase task.now (F.contents folder.old)) }
-    ensures err { F.faithful folder.new → AreSeenIn (F.contents folder.old).files seen.now
+        (IsEarlyCaseRead F.device first folder.new task.now) }
+    ensures reading { OnErr result ((task.now.runs ≡ true) × (is_empty task.now.actions ≡ false)) }
+    ensures case { F.device.faithful folder.new → AreSeenIn (F.device.contents folder.old).files seen.now
+        → IfOk result (IsCase task.now (F.device.contents folder.old)) }
+    ensures err { F.device.faithful folder.new → AreSeenIn (F.device.contents folder.old).files seen.now
         → IfErr result
-        (IsHindered task.now (F.contents folder.old) (F.failures folder.old) (F.failures folder.new)) }
+        (IsHindered task.now (F.device.contents folder.old) (F.device.failures folder.old)
+        (F.device.failures folder.new)) }
 {
     if !task.runs {
         return Ok(EarlyCase::Skips);

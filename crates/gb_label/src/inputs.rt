@@ -1,7 +1,7 @@
 //! The inputs of a task: read to decide its outcome, and completed for a run.
 ghost use Rattle.std.specs.Prelude.{◌≡◌, [], map, IsTrue, IfOk, IfErr, OnOk};
 ghost use Rattle.std.specs.List.{AllByRecursion};
-ghost use Rattle.gb_folder.specs.Calls.{Requests, no_change};
+ghost use Rattle.gb_folder.specs.Calls.{OnlyReads, Requests, no_change};
 ghost use Rattle.gb_meaning.specs.Tree.{input_faults, tree_faults, tree_of, trees_of};
 ghost use Rattle.gb_plan.specs.Task.{given_files};
 ghost use Rattle.gb_store.specs.Faults.{Blames, BlamesOnly, IsOfMachine};
@@ -33,30 +33,28 @@ fn read_one<F: Folder>(
     seen: &Seen,
     room: &mut u64,
 ) -> Result<Reading, Fault>
-    ensures requests { Requests F.failures F.may_leave F.allowed no_change folder.old folder.new }
-    ensures back { F.faithful folder.new → F.faithful folder.old }
-    ensures blame { Blames result (F.failures folder.old) (F.failures folder.new) }
+    ensures reads { OnlyReads F.device folder.old folder.new }
+    ensures blame { Blames result (F.device.failures folder.old) (F.device.failures folder.new) }
     ensures blamed { BlamesOnly (is_under_any property.now.roots) result }
-    ensures same { F.faithful folder.new → F.contents folder.new ≡ F.contents folder.old }
     ensures named { IfOk result (λ reading. reading.0 ≡ property.now.name) }
     ensures within { IfOk result
         (λ reading. AllByRecursion (λ observed. IsTrue (is_under_any property.now.roots observed.place))
         reading.1) }
-    ensures answered { (first : _) → Requests F.failures F.may_leave F.allowed no_change first folder.old
-        → AreSeen F.failures F.may_leave F.allowed first folder.old seen.now
+    ensures answered { (first : _) → Requests F.device no_change first folder.old
+        → AreSeen F.device first folder.old seen.now
         → IfOk result
-        (IsInputAnswered F.failures F.may_leave F.allowed first folder.new property.now) }
-    ensures digests { F.faithful folder.new → AreSeenIn (F.contents folder.old).files seen.now
+        (IsInputAnswered F.device first folder.new property.now) }
+    ensures digests { F.device.faithful folder.new → AreSeenIn (F.device.contents folder.old).files seen.now
         → IfOk result (λ reading. digests_observed reading.1
-        ≡ digests_of (tree_of property.now (F.contents folder.old).files)) }
-    ensures observed { F.faithful folder.new → AreSeenIn (F.contents folder.old).files seen.now
-        → IfOk result (IsPropertyObserved (F.contents folder.old).files property.now) }
-    ensures fit { F.faithful folder.new → AreSeenIn (F.contents folder.old).files seen.now
-        → OnOk result (tree_faults property.now (F.contents folder.old) ≡ []) }
-    ensures err { F.faithful folder.new → AreSeenIn (F.contents folder.old).files seen.now
+        ≡ digests_of (tree_of property.now (F.device.contents folder.old).files)) }
+    ensures observed { F.device.faithful folder.new → AreSeenIn (F.device.contents folder.old).files seen.now
+        → IfOk result (IsPropertyObserved (F.device.contents folder.old).files property.now) }
+    ensures fit { F.device.faithful folder.new → AreSeenIn (F.device.contents folder.old).files seen.now
+        → OnOk result (tree_faults property.now (F.device.contents folder.old) ≡ []) }
+    ensures err { F.device.faithful folder.new → AreSeenIn (F.device.contents folder.old).files seen.now
         → IfErr result
-        (CannotRead (F.failures folder.old) (F.failures folder.new) (tree_faults property.now
-        (F.contents folder.old))) }
+        (CannotRead (F.device.failures folder.old) (F.device.failures folder.new) (tree_faults property.now
+        (F.device.contents folder.old))) }
 {
     match reading_of(
         alloc,
@@ -84,30 +82,28 @@ pub(crate) fn read_inputs<F: Folder>(
     seen: &Seen,
     room: &mut u64,
 ) -> Result<Vec<Reading>, Fault>
-    ensures requests { Requests F.failures F.may_leave F.allowed no_change folder.old folder.new }
-    ensures back { F.faithful folder.new → F.faithful folder.old }
-    ensures blame { Blames result (F.failures folder.old) (F.failures folder.new) }
+    ensures reads { OnlyReads F.device folder.old folder.new }
+    ensures blame { Blames result (F.device.failures folder.old) (F.device.failures folder.new) }
     ensures blamed { BlamesOnly (is_input_of task.now) result }
     ensures read { IfOk result (λ readings. AreInputs task.now readings.items) }
     // Over any folder: the files are those that calls answered, and so are their digests and bytes,
     // since the state from which the files are seen.
-    ensures answered { (first : _) → Requests F.failures F.may_leave F.allowed no_change first folder.old
-        → AreSeen F.failures F.may_leave F.allowed first folder.old seen.now
-        → IfOk result (λ readings. AreInputsAnswered F.failures F.may_leave F.allowed
+    ensures answered { (first : _) → Requests F.device no_change first folder.old
+        → AreSeen F.device first folder.old seen.now
+        → IfOk result (λ readings. AreInputsAnswered F.device
         first folder.new task.now readings.items) }
-    ensures same { F.faithful folder.new → F.contents folder.new ≡ F.contents folder.old }
-    ensures prints { F.faithful folder.new → AreSeenIn (F.contents folder.old).files seen.now
+    ensures prints { F.device.faithful folder.new → AreSeenIn (F.device.contents folder.old).files seen.now
         → IfOk result (λ readings.
-        prints_read readings.items ≡ digests_in (trees_of task.now (F.contents folder.old).files)) }
-    ensures observed { F.faithful folder.new → AreSeenIn (F.contents folder.old).files seen.now
+        prints_read readings.items ≡ digests_in (trees_of task.now (F.device.contents folder.old).files)) }
+    ensures observed { F.device.faithful folder.new → AreSeenIn (F.device.contents folder.old).files seen.now
         → IfOk result
-        (λ readings. AreInputsObserved task.now (F.contents folder.old).files readings.items) }
-    ensures fit { F.faithful folder.new → AreSeenIn (F.contents folder.old).files seen.now
-        → OnOk result (input_faults task.now (F.contents folder.old) ≡ []) }
-    ensures err { F.faithful folder.new → AreSeenIn (F.contents folder.old).files seen.now
+        (λ readings. AreInputsObserved task.now (F.device.contents folder.old).files readings.items) }
+    ensures fit { F.device.faithful folder.new → AreSeenIn (F.device.contents folder.old).files seen.now
+        → OnOk result (input_faults task.now (F.device.contents folder.old) ≡ []) }
+    ensures err { F.device.faithful folder.new → AreSeenIn (F.device.contents folder.old).files seen.now
         → IfErr result
-        (CannotRead (F.failures folder.old) (F.failures folder.new) (input_faults task.now
-        (F.contents folder.old))) }
+        (CannotRead (F.device.failures folder.old) (F.device.failures folder.new) (input_faults task.now
+        (F.device.contents folder.old))) }
 {
     let mut readings = Vec::new(alloc);
     for property in task.files.as_slice() {
@@ -135,25 +131,24 @@ pub fn complete_inputs<F: Folder>(
     readings: Vec<Reading>,
 ) -> Result<Inputs, Fault>
     requires { AreInputs task.now readings.items }
-    ensures requests { Requests F.failures F.may_leave F.allowed no_change folder.old folder.new }
-    ensures back { F.faithful folder.new → F.faithful folder.old }
-    ensures blame { Blames result (F.failures folder.old) (F.failures folder.new) }
+    ensures reads { OnlyReads F.device folder.old folder.new }
+    ensures blame { Blames result (F.device.failures folder.old) (F.device.failures folder.new) }
     ensures blamed { BlamesOnly (is_input_of task.now) result }
     // Over any folder: the names of the properties, and the digests of the very trees.
     ensures named { IfOk result (λ inputs. map (λ tree. tree.0) inputs.trees ≡ given_files task.now.files) }
     ensures digests { IfOk result (λ inputs. inputs.prints.items ≡ digests_in inputs.trees) }
     // Also: what was answered before, with what is answered now for the rest.
-    ensures answered { (first : _) → Requests F.failures F.may_leave F.allowed no_change first folder.old
-        → AreInputsAnswered F.failures F.may_leave F.allowed first folder.old task.now readings.items
-        → IfOk result (λ inputs. AreInputsRead F.failures F.may_leave F.allowed first folder.new task.now
+    ensures answered { (first : _) → Requests F.device no_change first folder.old
+        → AreInputsAnswered F.device first folder.old task.now readings.items
+        → IfOk result (λ inputs. AreInputsRead F.device first folder.new task.now
         inputs.trees) }
-    ensures same { F.faithful folder.new → F.contents folder.new ≡ F.contents folder.old }
-    ensures trees { F.faithful folder.new → AreInputsObserved task.now (F.contents folder.old).files
+    ensures trees { F.device.faithful folder.new → AreInputsObserved task.now
+        (F.device.contents folder.old).files
         readings.items
-        → IfOk result (λ inputs. inputs.trees ≡ trees_of task.now (F.contents folder.old).files) }
-    ensures err { F.faithful folder.new
-        → AreInputsObserved task.now (F.contents folder.old).files readings.items
-        → IfErr result (IsOfMachine (F.failures folder.old) (F.failures folder.new)) }
+        → IfOk result (λ inputs. inputs.trees ≡ trees_of task.now (F.device.contents folder.old).files) }
+    ensures err { F.device.faithful folder.new
+        → AreInputsObserved task.now (F.device.contents folder.old).files readings.items
+        → IfErr result (IsOfMachine (F.device.failures folder.old) (F.device.failures folder.new)) }
 {
     let mut trees = Snapshots::new(alloc);
     let mut prints = Vec::new(alloc);

@@ -1,6 +1,6 @@
 //! Checks that everything at a task's outputs can be listed.
 ghost use Rattle.std.specs.Prelude.{◌≡◌, [], IfErr, OnOk};
-ghost use Rattle.gb_folder.specs.Calls.{Requests, no_change};
+ghost use Rattle.gb_folder.specs.Calls.{OnlyReads};
 ghost use Rattle.gb_meaning.specs.Tree.{listing_faults};
 ghost use Rattle.gb_plan.specs.Task.{is_output_of};
 ghost use Rattle.gb_store.specs.Faults.{Blames, BlamesOnly};
@@ -19,16 +19,14 @@ pub fn check_outputs<F: Folder>(
     folder: &mut F,
     task: &TaskDeclaration,
 ) -> Result<(), Fault>
-    ensures requests { Requests F.failures F.may_leave F.allowed no_change folder.old folder.new }
-    ensures back { F.faithful folder.new → F.faithful folder.old }
-    ensures blame { Blames result (F.failures folder.old) (F.failures folder.new) }
+    ensures reads { OnlyReads F.device folder.old folder.new }
+    ensures blame { Blames result (F.device.failures folder.old) (F.device.failures folder.new) }
     ensures blamed { BlamesOnly (is_output_of task.now) result }
-    ensures same { F.faithful folder.new → F.contents folder.new ≡ F.contents folder.old }
-    ensures none_special { F.faithful folder.new → OnOk result
-        (listing_faults task.now (F.contents folder.old) ≡ []) }
-    ensures err { F.faithful folder.new
-        → IfErr result (CannotRead (F.failures folder.old) (F.failures folder.new)
-        (listing_faults task.now (F.contents folder.old))) }
+    ensures none_special { F.device.faithful folder.new → OnOk result
+        (listing_faults task.now (F.device.contents folder.old) ≡ []) }
+    ensures err { F.device.faithful folder.new
+        → IfErr result (CannotRead (F.device.failures folder.old) (F.device.failures folder.new)
+        (listing_faults task.now (F.device.contents folder.old))) }
 {
     listed_outputs(alloc, folder, task.outputs.as_slice())?;
     Ok(())

@@ -3,7 +3,7 @@
 ghost use Rattle.std.specs.Prelude.{◌≡◌, [], map, IsTrue, IfOk, IfErr, OnOk};
 ghost use Rattle.std.specs.List.{AllByRecursion, flat_map};
 ghost use Rattle.gb_core.specs.Place.{is_under};
-ghost use Rattle.gb_folder.specs.Calls.{Requests, no_change};
+ghost use Rattle.gb_folder.specs.Calls.{OnlyReads, Requests, no_change};
 ghost use Rattle.gb_history.specs.Record.{prints_in};
 ghost use Rattle.gb_plan.specs.Task.{is_output_of, given_outputs};
 ghost use Rattle.gb_store.specs.Faults.{Blames, BlamesOnly, IsOfMachine};
@@ -39,30 +39,28 @@ fn read_one<F: Folder>(
     seen: &Seen,
     room: &mut u64,
 ) -> Result<Reading, Fault>
-    ensures requests { Requests F.failures F.may_leave F.allowed no_change folder.old folder.new }
-    ensures back { F.faithful folder.new → F.faithful folder.old }
-    ensures blame { Blames result (F.failures folder.old) (F.failures folder.new) }
+    ensures reads { OnlyReads F.device folder.old folder.new }
+    ensures blame { Blames result (F.device.failures folder.old) (F.device.failures folder.new) }
     ensures blamed { BlamesOnly (λ at. is_under at output.now.place) result }
-    ensures same { F.faithful folder.new → F.contents folder.new ≡ F.contents folder.old }
     ensures named { IfOk result (λ reading. reading.0 ≡ output.now.name) }
     ensures within { IfOk result
         (λ reading. AllByRecursion (λ observed. IsTrue (is_under observed.place output.now.place))
         reading.1) }
-    ensures answered { (first : _) → Requests F.failures F.may_leave F.allowed no_change first folder.old
-        → AreSeen F.failures F.may_leave F.allowed first folder.old seen.now
-        → IfOk result (IsOutputAnswered F.failures F.may_leave F.allowed first folder.new output.now) }
-    ensures digests { F.faithful folder.new → AreSeenIn (F.contents folder.old).files seen.now
+    ensures answered { (first : _) → Requests F.device no_change first folder.old
+        → AreSeen F.device first folder.old seen.now
+        → IfOk result (IsOutputAnswered F.device first folder.new output.now) }
+    ensures digests { F.device.faithful folder.new → AreSeenIn (F.device.contents folder.old).files seen.now
         → IfOk result (λ reading. digests_observed reading.1
-        ≡ digests_of (files_from (F.contents folder.old).files output.now.place)) }
-    ensures observed { F.faithful folder.new → AreSeenIn (F.contents folder.old).files seen.now
+        ≡ digests_of (files_from (F.device.contents folder.old).files output.now.place)) }
+    ensures observed { F.device.faithful folder.new → AreSeenIn (F.device.contents folder.old).files seen.now
         → IfOk result
-        (IsOutputObserved (F.contents folder.old).files output.now) }
-    ensures fit { F.faithful folder.new → AreSeenIn (F.contents folder.old).files seen.now
-        → OnOk result (print_faults (F.contents folder.old) output.now ≡ []) }
-    ensures err { F.faithful folder.new → AreSeenIn (F.contents folder.old).files seen.now
+        (IsOutputObserved (F.device.contents folder.old).files output.now) }
+    ensures fit { F.device.faithful folder.new → AreSeenIn (F.device.contents folder.old).files seen.now
+        → OnOk result (print_faults (F.device.contents folder.old) output.now ≡ []) }
+    ensures err { F.device.faithful folder.new → AreSeenIn (F.device.contents folder.old).files seen.now
         → IfErr result
-        (CannotRead (F.failures folder.old) (F.failures folder.new) (print_faults
-        (F.contents folder.old) output.now)) }
+        (CannotRead (F.device.failures folder.old) (F.device.failures folder.new) (print_faults
+        (F.device.contents folder.old) output.now)) }
 {
     match output_reading(alloc, folder, &output.name, &output.place, seen, room) {
         Ok(reading) => Ok(reading),
@@ -80,30 +78,28 @@ pub fn read_outputs<F: Folder>(
     seen: &Seen,
     room: &mut u64,
 ) -> Result<Vec<Reading>, Fault>
-    ensures requests { Requests F.failures F.may_leave F.allowed no_change folder.old folder.new }
-    ensures back { F.faithful folder.new → F.faithful folder.old }
-    ensures blame { Blames result (F.failures folder.old) (F.failures folder.new) }
+    ensures reads { OnlyReads F.device folder.old folder.new }
+    ensures blame { Blames result (F.device.failures folder.old) (F.device.failures folder.new) }
     ensures blamed { BlamesOnly (is_output_of task.now) result }
     ensures read { IfOk result (λ readings. AreOutputs task.now readings.items) }
     // Over any folder: the files are those that calls answered, and so are their digests and bytes,
     // since the state from which the files are seen.
-    ensures answered { (first : _) → Requests F.failures F.may_leave F.allowed no_change first folder.old
-        → AreSeen F.failures F.may_leave F.allowed first folder.old seen.now
-        → IfOk result (λ readings. AreOutputsAnswered F.failures F.may_leave F.allowed
+    ensures answered { (first : _) → Requests F.device no_change first folder.old
+        → AreSeen F.device first folder.old seen.now
+        → IfOk result (λ readings. AreOutputsAnswered F.device
         first folder.new task.now readings.items) }
-    ensures same { F.faithful folder.new → F.contents folder.new ≡ F.contents folder.old }
-    ensures prints { F.faithful folder.new → AreSeenIn (F.contents folder.old).files seen.now
+    ensures prints { F.device.faithful folder.new → AreSeenIn (F.device.contents folder.old).files seen.now
         → IfOk result (λ readings. prints_read readings.items
-        ≡ prints_in (map (recorded_of (F.contents folder.old).files) task.now.outputs)) }
-    ensures observed { F.faithful folder.new → AreSeenIn (F.contents folder.old).files seen.now
+        ≡ prints_in (map (recorded_of (F.device.contents folder.old).files) task.now.outputs)) }
+    ensures observed { F.device.faithful folder.new → AreSeenIn (F.device.contents folder.old).files seen.now
         → IfOk result
-        (λ readings. AreOutputsObserved task.now (F.contents folder.old).files readings.items) }
-    ensures fit { F.faithful folder.new → AreSeenIn (F.contents folder.old).files seen.now
+        (λ readings. AreOutputsObserved task.now (F.device.contents folder.old).files readings.items) }
+    ensures fit { F.device.faithful folder.new → AreSeenIn (F.device.contents folder.old).files seen.now
         → OnOk result (flat_map (print_faults
-        (F.contents folder.old)) task.now.outputs ≡ []) }
-    ensures err { F.faithful folder.new → AreSeenIn (F.contents folder.old).files seen.now
-        → IfErr result (CannotRead (F.failures folder.old) (F.failures folder.new)
-        (flat_map (print_faults (F.contents folder.old)) task.now.outputs)) }
+        (F.device.contents folder.old)) task.now.outputs ≡ []) }
+    ensures err { F.device.faithful folder.new → AreSeenIn (F.device.contents folder.old).files seen.now
+        → IfErr result (CannotRead (F.device.failures folder.old) (F.device.failures folder.new)
+        (flat_map (print_faults (F.device.contents folder.old)) task.now.outputs)) }
 {
     let mut readings = Vec::new(alloc);
     for output in task.outputs.as_slice() {
@@ -128,26 +124,24 @@ fn complete_one<F: Folder>(
     output: &Output,
     reading: Reading,
 ) -> Result<(OutputFiles, Prints), Fault>
-    ensures requests { Requests F.failures F.may_leave F.allowed no_change folder.old folder.new }
-    ensures back { F.faithful folder.new → F.faithful folder.old }
-    ensures blame { Blames result (F.failures folder.old) (F.failures folder.new) }
+    ensures reads { OnlyReads F.device folder.old folder.new }
+    ensures blame { Blames result (F.device.failures folder.old) (F.device.failures folder.new) }
     ensures blamed { BlamesOnly (is_among (entries_observed reading.1)) result }
-    ensures same { F.faithful folder.new → F.contents folder.new ≡ F.contents folder.old }
     ensures named { IfOk result (λ made. made.0.name ≡ output.now.name) }
     ensures formed { IfOk result (λ made. made.0.form ≡ output.now.form) }
     ensures digests { IfOk result (λ made. made.1 ≡ (reading.0, digests_of made.0.files)) }
     // Over any folder: what was answered before, and what is answered now for the rest.
-    ensures answered { (first : _) → Requests F.failures F.may_leave F.allowed no_change first folder.old
-        → WereObserved F.failures F.may_leave F.allowed first folder.old reading.1
-        → IfOk result (λ made. IsTreeRead F.failures F.may_leave F.allowed first folder.new
+    ensures answered { (first : _) → Requests F.device no_change first folder.old
+        → WereObserved F.device first folder.old reading.1
+        → IfOk result (λ made. IsTreeRead F.device first folder.new
         (entries_observed reading.1) made.0.files) }
-    ensures files { F.faithful folder.new
-        → AllByRecursion (IsObservedIn (F.contents folder.old).files) reading.1
+    ensures files { F.device.faithful folder.new
+        → AllByRecursion (IsObservedIn (F.device.contents folder.old).files) reading.1
         → IfOk result
-        (λ made. made.0.files ≡ contents_at (F.contents folder.old).files (entries_observed reading.1)) }
-    ensures err { F.faithful folder.new
-        → AllByRecursion (IsObservedIn (F.contents folder.old).files) reading.1
-        → IfErr result (IsOfMachine (F.failures folder.old) (F.failures folder.new)) }
+        (λ made. made.0.files ≡ contents_at (F.device.contents folder.old).files (entries_observed reading.1)) }
+    ensures err { F.device.faithful folder.new
+        → AllByRecursion (IsObservedIn (F.device.contents folder.old).files) reading.1
+        → IfErr result (IsOfMachine (F.device.failures folder.old) (F.device.failures folder.new)) }
 {
     let (tree, prints) = complete(alloc, folder, reading)?;
     let observed = OutputFiles {
@@ -168,27 +162,27 @@ pub fn complete_outputs<F: Folder>(
     readings: Vec<Reading>,
 ) -> Result<Outputs, Fault>
     requires { AreOutputs task.now readings.items }
-    ensures requests { Requests F.failures F.may_leave F.allowed no_change folder.old folder.new }
-    ensures back { F.faithful folder.new → F.faithful folder.old }
-    ensures blame { Blames result (F.failures folder.old) (F.failures folder.new) }
+    ensures reads { OnlyReads F.device folder.old folder.new }
+    ensures blame { Blames result (F.device.failures folder.old) (F.device.failures folder.new) }
     ensures blamed { BlamesOnly (is_output_of task.now) result }
     // Over any folder: the names and forms of the outputs, and the digests of the very files.
     ensures formed { IfOk result (λ outputs. map (λ output. (output.name, output.form)) outputs.observed
         ≡ given_outputs task.now.outputs) }
     ensures digests { IfOk result (λ outputs. outputs.prints.items ≡ prints_observed outputs.observed) }
     // Also: what was answered before, with what is answered now for the rest.
-    ensures answered { (first : _) → Requests F.failures F.may_leave F.allowed no_change first folder.old
-        → AreOutputsAnswered F.failures F.may_leave F.allowed first folder.old task.now readings.items
-        → IfOk result (λ outputs. AreOutputsRead F.failures F.may_leave F.allowed first folder.new task.now
+    ensures answered { (first : _) → Requests F.device no_change first folder.old
+        → AreOutputsAnswered F.device first folder.old task.now readings.items
+        → IfOk result (λ outputs. AreOutputsRead F.device first folder.new task.now
         outputs.observed) }
-    ensures same { F.faithful folder.new → F.contents folder.new ≡ F.contents folder.old }
-    ensures files { F.faithful folder.new → AreOutputsObserved task.now (F.contents folder.old).files
+    ensures files { F.device.faithful folder.new → AreOutputsObserved task.now
+        (F.device.contents folder.old).files
         readings.items
         → IfOk result
-        (λ outputs. outputs.observed ≡ map (observed_of (F.contents folder.old).files) task.now.outputs) }
-    ensures err { F.faithful folder.new
-        → AreOutputsObserved task.now (F.contents folder.old).files readings.items
-        → IfErr result (IsOfMachine (F.failures folder.old) (F.failures folder.new)) }
+        (λ outputs. outputs.observed ≡ map (observed_of (F.device.contents folder.old).files)
+        task.now.outputs) }
+    ensures err { F.device.faithful folder.new
+        → AreOutputsObserved task.now (F.device.contents folder.old).files readings.items
+        → IfErr result (IsOfMachine (F.device.failures folder.old) (F.device.failures folder.new)) }
 {
     let mut observed = OutputSnapshots::new(alloc);
     let mut prints = Vec::new(alloc);

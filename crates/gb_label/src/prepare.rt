@@ -1,6 +1,6 @@
 //! The outcome of a task that starts, before anything is changed.
 ghost use Rattle.std.specs.Prelude.{◌≡◌, ◌||◌, true, false, IfOk, IfErr, OnErr, option_copied};
-ghost use Rattle.gb_folder.specs.Calls.{Requests, no_change};
+ghost use Rattle.gb_folder.specs.Calls.{OnlyReads, Requests, no_change};
 ghost use Rattle.gb_folder.specs.Files.{is_empty};
 ghost use Rattle.gb_plan.specs.Task.{is_output_of};
 ghost use Rattle.gb_store.specs.Faults.{Blames, BlamesOnly};
@@ -65,36 +65,35 @@ pub fn prepare<F: Folder>(
     follows: bool,
 ) -> Result<Prepared, Fault>
     requires in_order { HasNamesInOrder task.now }
-    ensures requests { Requests F.failures F.may_leave F.allowed no_change folder.old folder.new }
-    ensures back { F.faithful folder.new → F.faithful folder.old }
-    ensures blame { Blames result (F.failures folder.old) (F.failures folder.new) }
+    ensures reads { OnlyReads F.device folder.old folder.new }
+    ensures blame { Blames result (F.device.failures folder.old) (F.device.failures folder.new) }
     ensures blamed { BlamesOnly (λ place. is_input_of task.now place || is_output_of task.now place) result }
     // Over any folder: which outcomes there may be, when the task may be up to date, what a decision
     // follows from, and that a task that is skipped or has no actions is prepared without a fault.
     ensures may_be { IfOk result (MayPrepare task.now) }
     ensures may_decide { IfOk result (MayDecideAs options task.now) }
     ensures goes_by { IfOk result (FollowsFromAs options task.now (option_copied old.entry)) }
-    ensures reads { OnErr result ((task.now.runs ≡ true) × (is_empty task.now.actions ≡ false)) }
-    ensures same { F.faithful folder.new → F.contents folder.new ≡ F.contents folder.old }
+    ensures reading { OnErr result ((task.now.runs ≡ true) × (is_empty task.now.actions ≡ false)) }
     // What is returned for a full run is readings of the task's inputs, for an incremental run also
     // of its outputs: with their names, and of files at their places.
     ensures read { IfOk result (IsRead task.now) }
     // Over any folder it is what calls answered, since the state from which the files are seen;
     // and what is up to date was found so on exactly this.
-    ensures answered { (first : _) → Requests F.failures F.may_leave F.allowed no_change first folder.old
-        → AreSeen F.failures F.may_leave F.allowed first folder.old seen.now
-        → IfOk result (WasPrepared F.failures F.may_leave F.allowed first folder.new options
+    ensures answered { (first : _) → Requests F.device no_change first folder.old
+        → AreSeen F.device first folder.old seen.now
+        → IfOk result (WasPrepared F.device first folder.new options
         task.now (option_copied old.entry)) }
-    ensures prepared { F.faithful folder.new → AreSeenIn (F.contents folder.old).files seen.now
+    ensures prepared { F.device.faithful folder.new → AreSeenIn (F.device.contents folder.old).files seen.now
         → IfOk result
-        (IsPrepared options task.now (F.contents folder.old) (option_copied old.entry)) }
+        (IsPrepared options task.now (F.device.contents folder.old) (option_copied old.entry)) }
     // Where contents are known and the seen digests are right: the files that a run is based on, or
     // the outputs of a task that is up to date, are in the folder as they were read.
-    ensures observed { F.faithful folder.new → AreSeenIn (F.contents folder.old).files seen.now
-        → IfOk result (IsObserved task.now (F.contents folder.old).files) }
-    ensures err { F.faithful folder.new → AreSeenIn (F.contents folder.old).files seen.now
+    ensures observed { F.device.faithful folder.new → AreSeenIn (F.device.contents folder.old).files seen.now
+        → IfOk result (IsObserved task.now (F.device.contents folder.old).files) }
+    ensures err { F.device.faithful folder.new → AreSeenIn (F.device.contents folder.old).files seen.now
         → IfErr result
-        (IsHindered task.now (F.contents folder.old) (F.failures folder.old) (F.failures folder.new)) }
+        (IsHindered task.now (F.device.contents folder.old) (F.device.failures folder.old)
+        (F.device.failures folder.new)) }
 {
     let room = input_room(task, options, old, follows);
     match early_case_of(alloc, folder, task, seen, room)? {

@@ -9,10 +9,11 @@ use std::alloc::{AllocError, Global};
 
 /// The output for the files at and under the place.
 pub fn shown_files<F: Folder>(alloc: Global, folder: &mut F, place: &Place) -> Result<Vec<u8>, Stop>
-    ensures same { F.faithful folder.new → F.contents folder.new ≡ F.contents folder.old }
-    ensures back { F.faithful folder.new → F.faithful folder.old }
-    ensures shown { F.faithful folder.new → IfOk result (λ text.
-        text.items ≡ shown_files (F.contents folder.old).files place.now) }
+    ensures same { F.device.faithful folder.new → F.device.contents folder.new
+        ≡ F.device.contents folder.old }
+    ensures back { F.device.faithful folder.new → F.device.faithful folder.old }
+    ensures shown { F.device.faithful folder.new → IfOk result (λ text.
+        text.items ≡ shown_files (F.device.contents folder.old).files place.now) }
 {
     let places = folder.list(alloc, place)?;
     if places.is_empty() {

@@ -7,6 +7,7 @@ use Rattle.gb_folder.specs.Semantics.{Answer}
 use Rattle.gb_logged.specs.Logged.{call_of, log_of, log, allowed_over, LogsCalls}
 use Rattle.gb_logged.specs.declared.logged.LoggedCall.{LoggedCall}
 use Rattle.gb_logged.specs.declared.logged.LoggedCall.TheVariants as kept
+use Rattle.gb_folder.specs.Calls.{Device}
 
 kept_one : (old new : List LoggedCall) (call : LoggedCall) → new ≡ old ++ call ∷ []
     → log_of new ≡ log_of old ++ call_of call ∷ []
@@ -35,8 +36,8 @@ kept_removal {old = old} {new = new} {copied = copied} {place = place} answer at
     ∙ ap (λ (p : List ℕ). old ++ kept.Removes p answer ∷ []) at)
 
 -- a logged folder keeps its calls
-pub all_kept : {F : Type 0} (failures : F → ℕ) (may_leave : F → Tearing) (allowed : F → Call → F → Type 0)
-    → LogsCalls (allowed_over failures may_leave allowed) log
-all_kept failures may_leave allowed = record {
+pub all_kept : {F : Type 0} (device : Device F)
+    → LogsCalls (allowed_over device) log
+all_kept device = record {
   kept = λ old call new is. elim is [ inl noted ↦ inl noted.0 | inr left ↦ inr (left.0, left.1) ];
 }

@@ -7,6 +7,7 @@ use Rattle.gb_folder.specs.declared.folder.FolderFault.TheVariants as folders
 use Rattle.gb_logged.specs.declared.logged.LoggedCall.{LoggedCall}
 use Rattle.gb_logged.specs.declared.logged.LoggedCall.TheVariants as kept
 use Rattle.gb_logged.specs.declared.logged.LoggedFolder.{LoggedFolder}
+use Rattle.gb_folder.specs.Calls.{Device}
 
 -- the call that was kept
 abbrev pub call_of : LoggedCall → Call
@@ -26,12 +27,11 @@ log folder = log_of folder.calls.items
 
 -- The call is kept, and the inner folder was asked for it; or memory ran out, nothing is kept, and the inner
 -- folder was asked for no change.
-abbrev pub allowed_over : {F : Type 0} → (F → ℕ) → (F → Tearing) → (F → Call → F → Type 0) → LoggedFolder F
-    → Call → LoggedFolder F → Type 0
-allowed_over failures may_leave allowed old call new =
-    ((log new ≡ log old ++ call ∷ []) × allowed old.inner call new.inner)
+abbrev pub allowed_over : {F : Type 0} → Device F → LoggedFolder F → Call → LoggedFolder F → Type 0
+allowed_over device old call new =
+    ((log new ≡ log old ++ call ∷ []) × device.allowed old.inner call new.inner)
     ⊎ ((log new ≡ log old) × (fault_of call ≡ Some folders.OutOfMemory)
-    × Requests failures may_leave allowed no_change old.inner new.inner)
+    × Requests device no_change old.inner new.inner)
 
 -- Each state of a folder keeps the calls that led to it, with their answers. A call for which memory ran out
 -- may be left out.

@@ -6,5 +6,5 @@ use gb_folder::folder::Folder;
 
 /// A logged folder keeps its calls.
 pub fn logged_folders_keep_calls<F: Folder + Drop>()
-    ensures { LogsCalls ⟦<LoggedFolder<F> as Folder>⟧.allowed log }
+    ensures { LogsCalls ⟦<LoggedFolder<F> as Folder>⟧.device.allowed log }
 {}

@@ -157,30 +157,19 @@ fn keep_read_part(
 }
 
 impl<F: Folder + Drop> Folder for LoggedFolder<F> {
-    ghost use Rattle.gb_folder.specs.Device.{device_of};
     ghost use Rattle.gb_logged.specs.Logged.{allowed_over};
 
-    ghost failures = { λ f. F.failures f.inner };
-
-    ghost faithful = { λ f. F.faithful f.inner };
-
-    ghost contents = { λ f. F.contents f.inner };
-
-    ghost may_leave = { λ f. F.may_leave f.inner };
-
-    ghost allowed = { λ old call new. allowed_over F.failures F.may_leave F.allowed old call new };
-
-    ghost device = { device_of (λ f. F.failures f.inner) (λ f. F.may_leave f.inner)
-        (λ old call new. allowed_over F.failures F.may_leave F.allowed old call new)
-        (λ f. F.faithful f.inner) (λ f. F.contents f.inner) };
+    ghost device = { record {
+      failures = λ f. F.device.failures f.inner;
+      may_leave = λ f. F.device.may_leave f.inner;
+      allowed = λ old call new. allowed_over F.device old call new;
+      faithful = λ f. F.device.faithful f.inner;
+      contents = λ f. F.device.contents f.inner;
+    } };
 
     ghost sound = { λ f. F.sound f.inner };
 
     ghost placed = { λ f. F.placed f.inner };
-
-    ghost called = { λ _ _ _ is. is };
-
-    ghost said = { λ _ _ _ is. is };
 
     fn list(&mut self, alloc: Global, root: &Place) -> Result<Vec<Place>, FolderFault> {
         let answer = self.inner.list(alloc, root);

@@ -248,7 +248,7 @@ fn folders_answer_alike(rt: HostRuntime) -> Result<(), Fail> {
     hold_on_disk(&rt, "alike", &[], &ALIKE)
 }
 
-const SPECIAL: [Row<'static>; 6] = [
+const SPECIAL: [Row<'static>; 8] = [
     // Folders without files are replaced by a file.
     (
         "!make e/f/g;!make e/h;list e;read e;remove e;write e;list e;read e",
@@ -267,6 +267,16 @@ const SPECIAL: [Row<'static>; 6] = [
     (
         "!make d;!link d/l ..;list d;read d;write d;remove d;write d/a;read d/a;read d/l;read d/l/a",
         "14;10;10;10;ok;hello;10;10;",
+    ),
+    // Nor is one where a folder is expected, after another one in the same folder.
+    (
+        "!make d/x;!put d/x/a 1;!link d/l x;list d/x;list d/l;list d/x;list d/y;list d/x;read d/x/a",
+        "d/x/a ;14;d/x/a ;;d/x/a ;1;",
+    ),
+    (
+        "!make d/x;!put d/x/a 1;!make d/y/z;!put d/y/z/b 2;!put d/f 3;\
+         list d/x;list d/y;list d/f;read d/f;list d/f/g;list d/x;list d/y/z;read d/y/z/b",
+        "d/x/a ;d/y/z/b ;d/f ;3;;d/x/a ;d/y/z/b ;2;",
     ),
     // A write at one name of a file keeps the bytes under its other name.
     (

@@ -2,7 +2,7 @@
 ghost use Rattle.std.specs.Prelude.{◌≡◌, ◌≤◌, ◌++◌, ◌∷◌, ◌&&◌, [], ℕ, List, Some, false, IfOk};
 ghost use Rattle.std.specs.Prelude.{OnOk, bytes_eq, if◌then◌else◌, is_some, length, map, option_copied};
 ghost use Rattle.std.specs.List.{AllByRecursion, list_any, zip};
-ghost use Rattle.gb_folder.specs.Calls.{Requests, no_change};
+ghost use Rattle.gb_folder.specs.Calls.{OnlyReads};
 ghost use Rattle.gb_folder.specs.Files.{is_own};
 ghost use Rattle.gb_predict.specs.Prediction.{ArePredictedOf, IsPredictedOf, IsReasoned};
 ghost use Rattle.gb_predict.specs.Least.{AreNotStarting};
@@ -45,18 +45,16 @@ pub fn predict<A: Actions, F: Folder>(
     requires ready { AllByRecursion (λ planned. IsReady A.meanings table.now planned.task) plan.now }
     requires in_order { AllByRecursion (λ planned. HasNamesInOrder planned.task) plan.now }
     requires each { length records.now ≡ length plan.now }
-    ensures requests { Requests F.failures F.may_leave F.allowed no_change folder.old folder.new }
-    ensures back { F.faithful folder.new → F.faithful folder.old }
-    ensures same { F.faithful folder.new → F.contents folder.new ≡ F.contents folder.old }
+    ensures reads { OnlyReads F.device folder.old folder.new }
     ensures paths { IfOk result (λ reported. map (λ one. one.path) reported.items ≡ order plan.now) }
     // Over any folder there is a reason if a task runs for reasons.
     ensures reasoned { IfOk result
         (λ reported. AllByRecursion (λ one. IsReasoned one.coming) reported.items) }
     ensures marked { IfOk result (λ reported. AreMarked plan.now reported.items) }
-    ensures prediction { F.faithful folder.new → (kinds : Kinds) → Agrees A.meanings table.now kinds
-        → IfOk result (λ reported. ArePredictedOf kinds options (F.contents folder.old)
-        (F.failures folder.old)
-        (F.failures folder.new) plan.now records.now reported.items) }
+    ensures prediction { F.device.faithful folder.new → (kinds : Kinds) → Agrees A.meanings table.now kinds
+        → IfOk result (λ reported. ArePredictedOf kinds options (F.device.contents folder.old)
+        (F.device.failures folder.old)
+        (F.device.failures folder.new) plan.now records.now reported.items) }
 {
     let row = outputs_by_place(alloc, plan)?;
     let mut reported = Vec::new(alloc);
@@ -134,17 +132,15 @@ fn prediction<A: Actions, F: Folder>(
     requires of_plan { AreSamePlaces (with_places [] (places_from output_places 0 plan.now)) row.now }
     requires each { length reported.now ≤ length plan.now }
     requires not_starting { AreNotStarting reported.now not_starting.now }
-    ensures requests { Requests F.failures F.may_leave F.allowed no_change folder.old folder.new }
-    ensures back { F.faithful folder.new → F.faithful folder.old }
-    ensures same { F.faithful folder.new → F.contents folder.new ≡ F.contents folder.old }
+    ensures reads { OnlyReads F.device folder.old folder.new }
     ensures path { IfOk result (λ one. one.path ≡ planned.now.task.path) }
     ensures reasoned { IfOk result (λ one. IsReasoned one.coming) }
     ensures marked { IfOk result (λ one.
         one.after ≡ mark (zip plan.now reported.now) planned.now.task one.coming) }
     ensures needs { IfOk result (λ one. one.kept_by ≡ keeper planned.now.task reported.now) }
-    ensures prediction { F.faithful folder.new → (kinds : Kinds) → Agrees A.meanings table.now kinds
-        → IfOk result (λ one. IsPredictedOf kinds options planned.now.task (F.contents folder.old)
-        (option_copied last.entry) (F.failures folder.old) (F.failures folder.new) one.coming) }
+    ensures prediction { F.device.faithful folder.new → (kinds : Kinds) → Agrees A.meanings table.now kinds
+        → IfOk result (λ one. IsPredictedOf kinds options planned.now.task (F.device.contents folder.old)
+        (option_copied last.entry) (F.device.failures folder.old) (F.device.failures folder.new) one.coming) }
 {
     let path = planned.task.path.copy()?;
     let coming = predicted_outcome::<A, F>(alloc, folder, &planned.task, table, options, last);

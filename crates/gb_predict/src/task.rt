@@ -1,6 +1,6 @@
 //! The outcome of one task, if it were executed now: what an execution decides, without doing it.
 ghost use Rattle.std.specs.Prelude.{◌≡◌, Bool, IfErr, IfOk, not, option_copied};
-ghost use Rattle.gb_folder.specs.Calls.{Requests, no_change};
+ghost use Rattle.gb_folder.specs.Calls.{OnlyReads};
 ghost use Rattle.gb_folder.specs.Files.{is_empty};
 ghost use Rattle.gb_predict.specs.Prediction.{IsPredictedOf, IsReasoned, reported_of};
 ghost use Rattle.gb_label.specs.Deciding.{HasNamesInOrder};
@@ -36,14 +36,12 @@ pub(crate) fn predicted_outcome<A: Actions, F: Folder>(
 ) -> PredictedOutcome
     requires ready { IsReady A.meanings table.now task.now }
     requires in_order { HasNamesInOrder task.now }
-    ensures requests { Requests F.failures F.may_leave F.allowed no_change folder.old folder.new }
-    ensures back { F.faithful folder.new → F.faithful folder.old }
-    ensures same { F.faithful folder.new → F.contents folder.new ≡ F.contents folder.old }
+    ensures reads { OnlyReads F.device folder.old folder.new }
     // Over any folder there is a reason if it runs for reasons.
     ensures reasoned { IsReasoned result }
-    ensures prediction { F.faithful folder.new → (kinds : Kinds) → Agrees A.meanings table.now kinds
-        → IsPredictedOf kinds options task.now (F.contents folder.old) (option_copied old.entry)
-        (F.failures folder.old) (F.failures folder.new) result }
+    ensures prediction { F.device.faithful folder.new → (kinds : Kinds) → Agrees A.meanings table.now kinds
+        → IsPredictedOf kinds options task.now (F.device.contents folder.old) (option_copied old.entry)
+        (F.device.failures folder.old) (F.device.failures folder.new) result }
 {
     let seen = Seen::new(alloc);
     match prepare(alloc, folder, task, options, old, &seen, false) {
@@ -64,16 +62,14 @@ fn sourceless<F: Folder>(
     folder: &mut F,
     task: &TaskDeclaration,
 ) -> Result<PredictedOutcome, Fault>
-    ensures requests { Requests F.failures F.may_leave F.allowed no_change folder.old folder.new }
-    ensures back { F.faithful folder.new → F.faithful folder.old }
-    ensures same { F.faithful folder.new → F.contents folder.new ≡ F.contents folder.old }
+    ensures reads { OnlyReads F.device folder.old folder.new }
     ensures reasoned { IfOk result IsReasoned }
-    ensures removes { F.faithful folder.new → IfOk result (λ coming. (removes : Bool)
+    ensures removes { F.device.faithful folder.new → IfOk result (λ coming. (removes : Bool)
         × (coming ≡ PredictedOutcome.HasNoSource removes)
-        × (removes ≡ not (is_empty (output_files task.now (F.contents folder.old).files)))) }
-    ensures err { F.faithful folder.new
-        → IfErr result (CannotRead (F.failures folder.old) (F.failures folder.new)
-        (listing_faults task.now (F.contents folder.old))) }
+        × (removes ≡ not (is_empty (output_files task.now (F.device.contents folder.old).files)))) }
+    ensures err { F.device.faithful folder.new
+        → IfErr result (CannotRead (F.device.failures folder.old) (F.device.failures folder.new)
+        (listing_faults task.now (F.device.contents folder.old))) }
 {
     let places = listed_outputs(alloc, folder, task.outputs.as_slice())?;
     Ok(PredictedOutcome::HasNoSource(!places.as_slice().is_empty()))

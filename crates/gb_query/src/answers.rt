@@ -1,6 +1,6 @@
 //! The whole answer to a query.
 ghost use Rattle.std.specs.Prelude.{◌≡◌, IfErr, IfOk, string_bytes};
-ghost use Rattle.gb_folder.specs.Calls.{Requests, no_change};
+ghost use Rattle.gb_folder.specs.Calls.{OnlyReads};
 ghost use Rattle.gb_plan.specs.Graph.{paths_of};
 ghost use Rattle.gb_query.specs.Inventory.{IsUnlisted};
 ghost use Rattle.gb_query.specs.Notation.{IsFoundText, IsStatusOf, IsTasksText};
@@ -65,13 +65,12 @@ pub fn inventory_text<F: Folder>(
     folder: &mut F,
     registered: &[TaskPath],
 ) -> Result<String, Fault>
-    ensures requests { Requests F.failures F.may_leave F.allowed no_change folder.old folder.new }
-    ensures back { F.faithful folder.new → F.faithful folder.old }
-    ensures same { F.faithful folder.new → F.contents folder.new ≡ F.contents folder.old }
-    ensures text { IfOk result (λ text. IsStatusOf (F.faithful folder.new) notation activity
-        (F.contents folder.old).files registered.now (string_bytes text)) }
-    ensures refused { F.faithful folder.new → IfErr result
-        (IsUnlisted (F.contents folder.old) (F.failures folder.old) (F.failures folder.new)) }
+    ensures reads { OnlyReads F.device folder.old folder.new }
+    ensures text { IfOk result (λ text. IsStatusOf (F.device.faithful folder.new) notation activity
+        (F.device.contents folder.old).files registered.now (string_bytes text)) }
+    ensures refused { F.device.faithful folder.new → IfErr result
+        (IsUnlisted (F.device.contents folder.old) (F.device.failures folder.old)
+        (F.device.failures folder.new)) }
 {
     let entries = inventory(alloc, folder, registered)?;
     let text = write_status(alloc, notation, activity, entries.as_slice());

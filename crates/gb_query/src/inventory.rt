@@ -2,7 +2,7 @@
 ghost use Rattle.std.specs.Prelude.{◌≡◌, ◌++◌, List, Option, Some, IfErr, IfOk, OnOk, codes};
 ghost use Rattle.std.specs.Prelude.{if◌then◌else◌, is_some, not};
 ghost use Rattle.std.specs.List.{AllZip};
-ghost use Rattle.gb_folder.specs.Calls.{Requests, no_change};
+ghost use Rattle.gb_folder.specs.Calls.{OnlyReads};
 ghost use Rattle.gb_folder.specs.Files.{Place as PlaceOf};
 ghost use Rattle.gb_history.specs.Record.{Record};
 ghost use Rattle.gb_plan.specs.Task.{Path, has_path};
@@ -42,13 +42,12 @@ pub fn inventory<F: Folder>(
     folder: &mut F,
     registered: &[TaskPath],
 ) -> Result<Vec<Entry>, Fault>
-    ensures requests { Requests F.failures F.may_leave F.allowed no_change folder.old folder.new }
-    ensures back { F.faithful folder.new → F.faithful folder.old }
-    ensures same { F.faithful folder.new → F.contents folder.new ≡ F.contents folder.old }
-    ensures entries { F.faithful folder.new → IfOk result
-        (λ entries. AreEntriesOf (F.contents folder.old).files registered.now entries.items) }
-    ensures refused { F.faithful folder.new → IfErr result
-        (IsUnlisted (F.contents folder.old) (F.failures folder.old) (F.failures folder.new)) }
+    ensures reads { OnlyReads F.device folder.old folder.new }
+    ensures entries { F.device.faithful folder.new → IfOk result
+        (λ entries. AreEntriesOf (F.device.contents folder.old).files registered.now entries.items) }
+    ensures refused { F.device.faithful folder.new → IfErr result
+        (IsUnlisted (F.device.contents folder.old) (F.device.failures folder.old)
+        (F.device.failures folder.new)) }
 {
     let own = own_folder(alloc)?;
     let places = listed_at(alloc, folder, &own)?;
@@ -62,13 +61,11 @@ pub fn unregistered<F: Folder>(
     folder: &mut F,
     registered: &[TaskPath],
 ) -> Result<Vec<TaskPath>, Fault>
-    ensures requests { Requests F.failures F.may_leave F.allowed no_change folder.old folder.new }
-    ensures back { F.faithful folder.new → F.faithful folder.old }
-    ensures same { F.faithful folder.new → F.contents folder.new ≡ F.contents folder.old }
-    ensures left { F.faithful folder.new → IfOk result
-        (λ left. AreUnregistered (F.contents folder.old) registered.now left.items) }
-    ensures err { F.faithful folder.new
-        → IfErr result (IsOfMachine (F.failures folder.old) (F.failures folder.new)) }
+    ensures reads { OnlyReads F.device folder.old folder.new }
+    ensures left { F.device.faithful folder.new → IfOk result
+        (λ left. AreUnregistered (F.device.contents folder.old) registered.now left.items) }
+    ensures err { F.device.faithful folder.new
+        → IfErr result (IsOfMachine (F.device.failures folder.old) (F.device.failures folder.new)) }
 {
     let own = own_folder(alloc)?;
     match listed_at(alloc, folder, &own) {
@@ -85,12 +82,10 @@ fn left_at<F: Folder>(
     registered: &[TaskPath],
     places: &[Place],
 ) -> Result<Vec<TaskPath>, Fault>
-    ensures requests { Requests F.failures F.may_leave F.allowed no_change folder.old folder.new }
-    ensures back { F.faithful folder.new → F.faithful folder.old }
-    ensures same { F.faithful folder.new → F.contents folder.new ≡ F.contents folder.old }
-    ensures left { F.faithful folder.new → IfOk result (λ left.
-        AreLeftAt (F.contents folder.old).files registered.now places.now left.items) }
-    ensures err { IfErr result (IsOfMachine (F.failures folder.old) (F.failures folder.new)) }
+    ensures reads { OnlyReads F.device folder.old folder.new }
+    ensures left { F.device.faithful folder.new → IfOk result (λ left.
+        AreLeftAt (F.device.contents folder.old).files registered.now places.now left.items) }
+    ensures err { IfErr result (IsOfMachine (F.device.failures folder.old) (F.device.failures folder.new)) }
 {
     let mut left = Vec::new(alloc);
     for place in places {
@@ -107,13 +102,11 @@ fn push_left<F: Folder>(
     registered: &[TaskPath],
     place: &Place,
 ) -> Result<(), Fault>
-    ensures requests { Requests F.failures F.may_leave F.allowed no_change folder.old folder.new }
-    ensures back { F.faithful folder.new → F.faithful folder.old }
-    ensures same { F.faithful folder.new → F.contents folder.new ≡ F.contents folder.old }
-    ensures left { F.faithful folder.new → OnOk result ((row : List Path)
-        × IsLeftAt (F.contents folder.old).files registered.now place.now row
+    ensures reads { OnlyReads F.device folder.old folder.new }
+    ensures left { F.device.faithful folder.new → OnOk result ((row : List Path)
+        × IsLeftAt (F.device.contents folder.old).files registered.now place.now row
         × (left.new.items ≡ left.old.items ++ row)) }
-    ensures err { IfErr result (IsOfMachine (F.failures folder.old) (F.failures folder.new)) }
+    ensures err { IfErr result (IsOfMachine (F.device.failures folder.old) (F.device.failures folder.new)) }
 {
     match owner_of(alloc, place)? {
         Some(path) => push_owner(alloc, folder, left, registered, place, &path),
@@ -131,13 +124,11 @@ fn push_owner<F: Folder>(
     path: &TaskPath,
 ) -> Result<(), Fault>
     requires { IsOwner place.now (Some path.now) }
-    ensures requests { Requests F.failures F.may_leave F.allowed no_change folder.old folder.new }
-    ensures back { F.faithful folder.new → F.faithful folder.old }
-    ensures same { F.faithful folder.new → F.contents folder.new ≡ F.contents folder.old }
-    ensures left { F.faithful folder.new → OnOk result ((row : List Path)
-        × IsLeftAt (F.contents folder.old).files registered.now place.now row
+    ensures reads { OnlyReads F.device folder.old folder.new }
+    ensures left { F.device.faithful folder.new → OnOk result ((row : List Path)
+        × IsLeftAt (F.device.contents folder.old).files registered.now place.now row
         × (left.new.items ≡ left.old.items ++ row)) }
-    ensures err { IfErr result (IsOfMachine (F.failures folder.old) (F.failures folder.new)) }
+    ensures err { IfErr result (IsOfMachine (F.device.failures folder.old) (F.device.failures folder.new)) }
 {
     let is_left = is_left(alloc, folder, registered, path)?;
     push_if(left, is_left, path)?;
@@ -151,13 +142,11 @@ fn is_left<F: Folder>(
     registered: &[TaskPath],
     path: &TaskPath,
 ) -> Result<bool, Fault>
-    ensures requests { Requests F.failures F.may_leave F.allowed no_change folder.old folder.new }
-    ensures back { F.faithful folder.new → F.faithful folder.old }
-    ensures same { F.faithful folder.new → F.contents folder.new ≡ F.contents folder.old }
-    ensures left { F.faithful folder.new → IfOk result (λ is. (place : PlaceOf)
+    ensures reads { OnlyReads F.device folder.old folder.new }
+    ensures left { F.device.faithful folder.new → IfOk result (λ is. (place : PlaceOf)
         → IsOwner place (Some path.now)
-        → IsLeftAt (F.contents folder.old).files registered.now place (row_if is path.now)) }
-    ensures err { IfErr result (IsOfMachine (F.failures folder.old) (F.failures folder.new)) }
+        → IsLeftAt (F.device.contents folder.old).files registered.now place (row_if is path.now)) }
+    ensures err { IfErr result (IsOfMachine (F.device.failures folder.old) (F.device.failures folder.new)) }
 {
     if is_among(registered, path) {
         Ok(false)
@@ -193,12 +182,10 @@ fn entries_of<F: Folder>(
     registered: &[TaskPath],
     places: &[Place],
 ) -> Result<Vec<Entry>, Fault>
-    ensures requests { Requests F.failures F.may_leave F.allowed no_change folder.old folder.new }
-    ensures back { F.faithful folder.new → F.faithful folder.old }
-    ensures same { F.faithful folder.new → F.contents folder.new ≡ F.contents folder.old }
-    ensures entries { F.faithful folder.new → IfOk result (λ entries.
-        AllZip (IsEntryOf (F.contents folder.old).files registered.now) places.now entries.items) }
-    ensures err { IfErr result (IsOfMachine (F.failures folder.old) (F.failures folder.new)) }
+    ensures reads { OnlyReads F.device folder.old folder.new }
+    ensures entries { F.device.faithful folder.new → IfOk result (λ entries.
+        AllZip (IsEntryOf (F.device.contents folder.old).files registered.now) places.now entries.items) }
+    ensures err { IfErr result (IsOfMachine (F.device.failures folder.old) (F.device.failures folder.new)) }
 {
     let mut entries = Vec::new(alloc);
     for place in places {
@@ -214,12 +201,10 @@ fn entry_of<F: Folder>(
     registered: &[TaskPath],
     place: &Place,
 ) -> Result<Entry, Fault>
-    ensures requests { Requests F.failures F.may_leave F.allowed no_change folder.old folder.new }
-    ensures back { F.faithful folder.new → F.faithful folder.old }
-    ensures same { F.faithful folder.new → F.contents folder.new ≡ F.contents folder.old }
-    ensures entry { F.faithful folder.new → IfOk result
-        (IsEntryOf (F.contents folder.old).files registered.now place.now) }
-    ensures err { IfErr result (IsOfMachine (F.failures folder.old) (F.failures folder.new)) }
+    ensures reads { OnlyReads F.device folder.old folder.new }
+    ensures entry { F.device.faithful folder.new → IfOk result
+        (IsEntryOf (F.device.contents folder.old).files registered.now place.now) }
+    ensures err { IfErr result (IsOfMachine (F.device.failures folder.old) (F.device.failures folder.new)) }
 {
     match owner_of(alloc, place)? {
         Some(path) => record_entry(alloc, folder, registered, place, path),
@@ -236,12 +221,10 @@ fn record_entry<F: Folder>(
     path: TaskPath,
 ) -> Result<Entry, Fault>
     requires { IsOwner place.now (Some path) }
-    ensures requests { Requests F.failures F.may_leave F.allowed no_change folder.old folder.new }
-    ensures back { F.faithful folder.new → F.faithful folder.old }
-    ensures same { F.faithful folder.new → F.contents folder.new ≡ F.contents folder.old }
-    ensures entry { F.faithful folder.new → IfOk result
-        (IsEntryOf (F.contents folder.old).files registered.now place.now) }
-    ensures err { IfErr result (IsOfMachine (F.failures folder.old) (F.failures folder.new)) }
+    ensures reads { OnlyReads F.device folder.old folder.new }
+    ensures entry { F.device.faithful folder.new → IfOk result
+        (IsEntryOf (F.device.contents folder.old).files registered.now place.now) }
+    ensures err { IfErr result (IsOfMachine (F.device.failures folder.old) (F.device.failures folder.new)) }
 {
     let has_record = has_record(alloc, folder, &path)?;
     Ok(class_of(registered, path, has_record))
@@ -269,12 +252,10 @@ fn is_among(registered: &[TaskPath], path: &TaskPath) -> bool
 
 /// Whether there is a record of the task.
 fn has_record<F: Folder>(alloc: Global, folder: &mut F, path: &TaskPath) -> Result<bool, Fault>
-    ensures requests { Requests F.failures F.may_leave F.allowed no_change folder.old folder.new }
-    ensures back { F.faithful folder.new → F.faithful folder.old }
-    ensures same { F.faithful folder.new → F.contents folder.new ≡ F.contents folder.old }
-    ensures read { F.faithful folder.new → IfOk result (λ has_record. (read : Option Record)
-        × IsReadAt (F.contents folder.old).files path.now read × (has_record ≡ is_some read)) }
-    ensures err { IfErr result (IsOfMachine (F.failures folder.old) (F.failures folder.new)) }
+    ensures reads { OnlyReads F.device folder.old folder.new }
+    ensures read { F.device.faithful folder.new → IfOk result (λ has_record. (read : Option Record)
+        × IsReadAt (F.device.contents folder.old).files path.now read × (has_record ≡ is_some read)) }
+    ensures err { IfErr result (IsOfMachine (F.device.failures folder.old) (F.device.failures folder.new)) }
 {
     let mut paths = Vec::new(alloc);
     paths.push(path.copy()?)?;

@@ -19,6 +19,7 @@ use Rattle.gb_records.specs.Faults.{none_for}
 use Rattle.gb_records.specs.Said.{IsReadAs, IsReadAt, IsText}
 use Rattle.gb_records.specs.Texts.{IsRecordOf, IsStoredAt, WasStoredAt, WasTextAnswered}
 use Rattle.gb_records.proofs.Calls.{or_true}
+use Rattle.gb_folder.specs.Calls.{Device}
 
 -- what passes in a part of a list, passes in the list
 pub any_part : {X : Type 0} (p : X → Bool) (xs ys zs : List X) → list_any p ys ≡ true → list_any p (xs ++ (ys ++ zs)) ≡ true
@@ -29,49 +30,49 @@ some_same : {X : Type 0} {a b : X} → Some a ≡ Some b → a ≡ b
 some_same is = cc
 
 -- if there is no place for a record, none was answered
-pub none_placed : {F : Type 0} (failures : F → ℕ) (may_leave : F → Tearing) (allowed : F → Call → F → Type 0) (old new : F) (path : Path) (fault : PlaceFault) (result : Result (Option Bytes) Fault) → (fault ≡ places.BadPlace → result ≡ Ok None)
-    → (fault ≡ places.OutOfMemory → result ≡ Err faults.OutOfMemory) → IfOk result (WasTextAnswered failures may_leave allowed old new path)
-none_placed failures may_leave allowed old new path places.BadPlace result bad out = subst (λ (r : Result (Option Bytes) Fault). IfOk r (WasTextAnswered failures may_leave allowed old new path)) (sym (bad refl)) tt
-none_placed failures may_leave allowed old new path places.OutOfMemory result bad out = subst (λ (r : Result (Option Bytes) Fault). IfOk r (WasTextAnswered failures may_leave allowed old new path)) (sym (out refl)) tt
+pub none_placed : {F : Type 0} (device : Device F) (old new : F) (path : Path) (fault : PlaceFault) (result : Result (Option Bytes) Fault) → (fault ≡ places.BadPlace → result ≡ Ok None)
+    → (fault ≡ places.OutOfMemory → result ≡ Err faults.OutOfMemory) → IfOk result (WasTextAnswered device old new path)
+none_placed device old new path places.BadPlace result bad out = subst (λ (r : Result (Option Bytes) Fault). IfOk r (WasTextAnswered device old new path)) (sym (bad refl)) tt
+none_placed device old new path places.OutOfMemory result bad out = subst (λ (r : Result (Option Bytes) Fault). IfOk r (WasTextAnswered device old new path)) (sym (out refl)) tt
 
 -- nor if there is none
-pub none_existed : {F : Type 0} (failures : F → ℕ) (may_leave : F → Tearing) (allowed : F → Call → F → Type 0) (old new : F) (path : Path) (place : Place) (fault : FolderFault) → IfOk (none_for place fault) (WasTextAnswered failures may_leave allowed old new path)
-none_existed failures may_leave allowed old new path place folders.OutOfMemory = tt
-none_existed failures may_leave allowed old new path place folders.Device = tt
-none_existed failures may_leave allowed old new path place folders.Missing = tt
-none_existed failures may_leave allowed old new path place folders.Blocked = tt
-none_existed failures may_leave allowed old new path place folders.TooLarge = tt
-none_existed failures may_leave allowed old new path place folders.BadFileName = tt
+pub none_existed : {F : Type 0} (device : Device F) (old new : F) (path : Path) (place : Place) (fault : FolderFault) → IfOk (none_for place fault) (WasTextAnswered device old new path)
+none_existed device old new path place folders.OutOfMemory = tt
+none_existed device old new path place folders.Device = tt
+none_existed device old new path place folders.Missing = tt
+none_existed device old new path place folders.Blocked = tt
+none_existed device old new path place folders.TooLarge = tt
+none_existed device old new path place folders.BadFileName = tt
 
-module _ {F : Type 0} {failures : F → ℕ} {may_leave : F → Tearing} {allowed : F → Call → F → Type 0} where
-  pub answered_longer : (first old new last : F) → Requests failures may_leave allowed no_change first old → Requests failures may_leave allowed no_change new last
-      → (path : Path) (read : Option Record) → WasAnswered failures may_leave allowed old new path read → WasAnswered failures may_leave allowed first last path read
+module _ {F : Type 0} {device : Device F} where
+  pub answered_longer : (first old new last : F) → Requests device no_change first old → Requests device no_change new last
+      → (path : Path) (read : Option Record) → WasAnswered device old new path read → WasAnswered device first last path read
   answered_longer first old new last before following path None was = was
   answered_longer first old new last before following path (Some run) was = (was.0, was.1, on_longer_way before following was.2)
 
-  pub all_answered_longer : (first old new last : F) → Requests failures may_leave allowed no_change first old → Requests failures may_leave allowed no_change new last
-      → (paths : List Path) (read : List (Option Record)) → AllZip (WasAnswered failures may_leave allowed old new) paths read → AllZip (WasAnswered failures may_leave allowed first last) paths read
+  pub all_answered_longer : (first old new last : F) → Requests device no_change first old → Requests device no_change new last
+      → (paths : List Path) (read : List (Option Record)) → AllZip (WasAnswered device old new) paths read → AllZip (WasAnswered device first last) paths read
   all_answered_longer first old new last before following [] [] all = all
   all_answered_longer first old new last before following [] (x ∷ xs) all = all
   all_answered_longer first old new last before following (path ∷ paths) [] all = all
   all_answered_longer first old new last before following (path ∷ paths) (x ∷ xs) all =
       (answered_longer first old new last before following path x all.0, all_answered_longer first old new last before following paths xs all.1)
 
-  pub text_answered_longer : (first old new last : F) → Requests failures may_leave allowed no_change first old → Requests failures may_leave allowed no_change new last
-      → (path : Path) (text : Path × Option Bytes) → WasStoredAt failures may_leave allowed old new path text → WasStoredAt failures may_leave allowed first last path text
+  pub text_answered_longer : (first old new last : F) → Requests device no_change first old → Requests device no_change new last
+      → (path : Path) (text : Path × Option Bytes) → WasStoredAt device old new path text → WasStoredAt device first last path text
   text_answered_longer first old new last before following path text was = (was.0, longer text.1 was.1)
     where
-      longer : (bytes : Option Bytes) → WasTextAnswered failures may_leave allowed old new path bytes → WasTextAnswered failures may_leave allowed first last path bytes
+      longer : (bytes : Option Bytes) → WasTextAnswered device old new path bytes → WasTextAnswered device first last path bytes
       longer None h = tt
       longer (Some bytes) h = (h.0, on_longer_way before following h.1)
 
 -- a record that is read as a text that was answered, was answered
-pub record_answered : {F : Type 0} (failures : F → ℕ) (may_leave : F → Tearing) (allowed : F → Call → F → Type 0) (old new : F) (path : Path) (text : Path × Option Bytes) (read : Option Record)
-    → WasStoredAt failures may_leave allowed old new path text → IsRecordOf text read → WasAnswered failures may_leave allowed old new path read
-record_answered failures may_leave allowed old new path (other, None) read was is =
-    subst (WasAnswered failures may_leave allowed old new path) (sym is) tt
-record_answered failures may_leave allowed old new path (other, Some bytes) None was is = tt
-record_answered failures may_leave allowed old new path (other, Some bytes) (Some run) was is =
+pub record_answered : {F : Type 0} (device : Device F) (old new : F) (path : Path) (text : Path × Option Bytes) (read : Option Record)
+    → WasStoredAt device old new path text → IsRecordOf text read → WasAnswered device old new path read
+record_answered device old new path (other, None) read was is =
+    subst (WasAnswered device old new path) (sym is) tt
+record_answered device old new path (other, Some bytes) None was is = tt
+record_answered device old new path (other, Some bytes) (Some run) was is =
     let read = is was.1.0 in (
       bytes,
       subst (λ (p : Path). IsText p run bytes) was.0 (subst (λ (b : Bytes). IsText other run b) (sym (some_same read.1)) read.2),

@@ -3,7 +3,8 @@ use Rattle.std.specs.Prelude.{◌≡◌, Bool, true, false, not, ◌||◌, List,
 use Rattle.std.proofs.Common.{refl, sym, ap, subst, inl, inr}
 use Rattle.gb_core.specs.Place.{is_place}
 use Rattle.gb_folder.specs.Calls.{Call, Removes, Writes}
-use Rattle.gb_folder.specs.Device.{Device, IsCalled, Leads}
+use Rattle.gb_folder.specs.Calls.{Device}
+use Rattle.gb_folder.specs.Device.{IsCalled, Leads}
 use Rattle.gb_folder.specs.Each.{Ended}
 use Rattle.gb_folder.specs.Files.{Bytes, Place}
 use Rattle.gb_folder.specs.Semantics.{Answer}

@@ -8,11 +8,12 @@ use Rattle.gb_history.specs.Record.{Record}
 use Rattle.gb_meaning.specs.Events.{max_record}
 use Rattle.gb_plan.specs.Task.{Path}
 use Rattle.gb_records.specs.Said.{IsText}
+use Rattle.gb_folder.specs.Calls.{Device}
 
 -- a read of the record's place on the way returned a text of the record
-abbrev pub WasAnswered : {F : Type 0} → (F → ℕ) → (F → Tearing) → (F → Call → F → Type 0) → F → F → Path
+abbrev pub WasAnswered : {F : Type 0} → Device F → F → F → Path
     → Option Record → Type 0
-WasAnswered failures may_leave allowed old new path None = ⊤
-WasAnswered failures may_leave allowed old new path (Some run) =
+WasAnswered device old new path None = ⊤
+WasAnswered device old new path (Some run) =
     (bytes : Bytes) × IsText path run bytes
-    × IsOnWay failures may_leave allowed (Reads (record_place path) max_record (Ok bytes)) old new
+    × IsOnWay device (Reads (record_place path) max_record (Ok bytes)) old new

@@ -9,6 +9,7 @@ use Rattle.gb_history.specs.Text.{unsealed}
 use Rattle.gb_meaning.specs.Events.{max_record}
 use Rattle.gb_plan.specs.Task.{Path}
 use Rattle.gb_records.specs.Said.{IsReadAs, IsReadAt}
+use Rattle.gb_folder.specs.Calls.{Device}
 
 -- the bytes are those of the record's file; if there are none, no record is there
 abbrev pub IsTextAt : Files → Path → Option Bytes → Type 0
@@ -16,21 +17,21 @@ IsTextAt files path None = IsReadAt files path None
 IsTextAt files path (Some bytes) = (file_at files (record_place path) ≡ Some bytes) × (length bytes ≤ max_record)
 
 -- a read of the record's place on the way returned the bytes
-abbrev pub WasTextAnswered : {F : Type 0} → (F → ℕ) → (F → Tearing) → (F → Call → F → Type 0) → F → F → Path
+abbrev pub WasTextAnswered : {F : Type 0} → Device F → F → F → Path
     → Option Bytes → Type 0
-WasTextAnswered failures may_leave allowed old new path None = ⊤
-WasTextAnswered failures may_leave allowed old new path (Some bytes) =
+WasTextAnswered device old new path None = ⊤
+WasTextAnswered device old new path (Some bytes) =
     (length bytes ≤ max_record)
-    × IsOnWay failures may_leave allowed (Reads (record_place path) max_record (Ok bytes)) old new
+    × IsOnWay device (Reads (record_place path) max_record (Ok bytes)) old new
 
 -- the text is that of this task, and was read there
 abbrev pub IsStoredAt : Files → Path → Path × Option Bytes → Type 0
 IsStoredAt files path text = (text.0 ≡ path) × IsTextAt files path text.1
 
-abbrev pub WasStoredAt : {F : Type 0} → (F → ℕ) → (F → Tearing) → (F → Call → F → Type 0) → F → F → Path
+abbrev pub WasStoredAt : {F : Type 0} → Device F → F → F → Path
     → Path × Option Bytes → Type 0
-WasStoredAt failures may_leave allowed old new path text =
-    (text.0 ≡ path) × WasTextAnswered failures may_leave allowed old new path text.1
+WasStoredAt device old new path text =
+    (text.0 ≡ path) × WasTextAnswered device old new path text.1
 
 -- the record that a text is read as; none, if there is no text
 abbrev pub IsRecordIn : Path → Option Bytes → Option Record → Type 0

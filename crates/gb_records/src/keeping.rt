@@ -35,21 +35,22 @@ pub fn delete_record<F: Folder>(
     // Over any folder: by one call, or by none if no record was read.
     ensures calls { (calls : List Call) × Leads F.device folder.old calls folder.new
         × Deletion path.now was_read calls result }
-    ensures back { F.faithful folder.new → F.faithful folder.old }
-    ensures requests { Requests F.failures F.may_leave F.allowed (taken_at (record_place path.now)) folder.old
+    ensures requests { Requests F.device (taken_at (record_place path.now)) folder.old
         folder.new }
     ensures unread { was_read ≡ false → folder.new ≡ folder.old }
-    ensures out { F.faithful folder.new → OnOk result
-        (F.contents folder.new ≡ taken_out was_read path.now (F.contents folder.old)) }
-    ensures err { F.faithful folder.new → IfErr result (λ fault. ComesToNothing (F.may_leave folder.old)
-        path.now None (F.failures folder.old) (F.failures folder.new) (F.contents folder.old) fault
-        (F.contents folder.new)) }
+    ensures out { F.device.faithful folder.new → OnOk result
+        (F.device.contents folder.new ≡ taken_out was_read path.now (F.device.contents folder.old)) }
+    ensures err { F.device.faithful folder.new → IfErr result (λ fault. ComesToNothing
+        (F.device.may_leave folder.old)
+        path.now None (F.device.failures folder.old) (F.device.failures folder.new)
+        (F.device.contents folder.old) fault
+        (F.device.contents folder.new)) }
     // Which records exist then.
-    ensures exists { F.faithful folder.new
-        → TornWritesAreDetected IsText record_place (F.may_leave folder.old)
-        → (memory : Memory) → HoldsRecords (F.contents folder.old).files memory
+    ensures exists { F.device.faithful folder.new
+        → TornWritesAreDetected IsText record_place (F.device.may_leave folder.old)
+        → (memory : Memory) → HoldsRecords (F.device.contents folder.old).files memory
         → (was_read ≡ false → recalled memory path.now ≡ None)
-        → HoldsWithout path.now memory result (F.contents folder.new).files }
+        → HoldsWithout path.now memory result (F.device.contents folder.new).files }
 {
     // For the proof alone: `as_str` states that this is a task's path, which the contract about
     // records needs.
@@ -81,25 +82,24 @@ pub fn store_record<F: Folder>(
     path: &TaskPath,
     run: &Record,
 ) -> Result<(), Unwritten>
-    ensures requests { Requests F.failures F.may_leave F.allowed (put_at (record_place path.now) (record_text
+    ensures requests { Requests F.device (put_at (record_place path.now) (record_text
         path.now run.now)) folder.old folder.new }
-    ensures back { F.faithful folder.new → F.faithful folder.old }
     // Over any folder: by one call, with its very text.
     ensures calls { (calls : List Call) × Leads F.device folder.old calls folder.new
         × Storing path.now run.now calls result }
-    ensures written { F.faithful folder.new → OnOk result
-        (F.contents folder.new ≡ written_in path.now run.now (F.contents folder.old)) }
+    ensures written { F.device.faithful folder.new → OnOk result
+        (F.device.contents folder.new ≡ written_in path.now run.now (F.device.contents folder.old)) }
     ensures said { OnOk result (IsText path.now run.now (record_text path.now run.now)) }
-    ensures err { F.faithful folder.new
-        → IfErr result (λ fault. ComesToNothing (F.may_leave folder.old) path.now
-        (Some (record_text path.now run.now)) (F.failures folder.old) (F.failures folder.new)
-        (F.contents folder.old) fault (F.contents folder.new)) }
+    ensures err { F.device.faithful folder.new
+        → IfErr result (λ fault. ComesToNothing (F.device.may_leave folder.old) path.now
+        (Some (record_text path.now run.now)) (F.device.failures folder.old) (F.device.failures folder.new)
+        (F.device.contents folder.old) fault (F.device.contents folder.new)) }
     // Which records exist then.
-    ensures exists { F.faithful folder.new
-        → TornWritesAreDetected IsText record_place (F.may_leave folder.old)
-        → (memory : Memory) (entry : Entry) → HoldsRecords (F.contents folder.old).files memory
+    ensures exists { F.device.faithful folder.new
+        → TornWritesAreDetected IsText record_place (F.device.may_leave folder.old)
+        → (memory : Memory) (entry : Entry) → HoldsRecords (F.device.contents folder.old).files memory
         → IsSaidOf run.now entry
-        → HoldsWith path.now entry memory result (F.contents folder.new).files }
+        → HoldsWith path.now entry memory result (F.device.contents folder.new).files }
 {
     let text = record_text(alloc, path, run)?;
     if text.len() as u64 > MAX_RECORD {

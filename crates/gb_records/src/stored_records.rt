@@ -3,7 +3,7 @@ ghost use Rattle.std.specs.Prelude.{◌≡◌, ◌≤◌, ◌++◌, ◌∷◌, [
 ghost use Rattle.std.specs.Prelude.{IfOk, IfErr, OnOk};
 ghost use Rattle.std.specs.List.{AllZip, list_any};
 ghost use Rattle.sha2.specs.Sha256.{sha256};
-ghost use Rattle.gb_folder.specs.Calls.{Requests, no_change};
+ghost use Rattle.gb_folder.specs.Calls.{OnlyReads};
 ghost use Rattle.gb_history.specs.Places.{record_place};
 ghost use Rattle.gb_history.specs.Record.{Record as Recorded};
 ghost use Rattle.gb_history.specs.Text.{unsealed};
@@ -40,18 +40,16 @@ pub fn read_records<F: Folder>(
     folder: &mut F,
     paths: &[TaskPath],
 ) -> Result<Vec<Option<Record>>, Fault>
-    ensures requests { Requests F.failures F.may_leave F.allowed no_change folder.old folder.new }
-    ensures back { F.faithful folder.new → F.faithful folder.old }
-    ensures blame { Blames result (F.failures folder.old) (F.failures folder.new) }
+    ensures reads { OnlyReads F.device folder.old folder.new }
+    ensures blame { Blames result (F.device.failures folder.old) (F.device.failures folder.new) }
     ensures blamed { BlamesOnly (λ place. list_any (λ path. is_at (record_place path) place) paths.now)
         result }
-    ensures same { F.faithful folder.new → F.contents folder.new ≡ F.contents folder.old }
-    ensures read { F.faithful folder.new → IfOk result
-        (λ records. AllZip (IsReadAt (F.contents folder.old).files) paths.now records.items) }
+    ensures read { F.device.faithful folder.new → IfOk result
+        (λ records. AllZip (IsReadAt (F.device.contents folder.old).files) paths.now records.items) }
     // Over any folder: each record is what a call at its place answered.
     ensures answered { IfOk result (λ records. AllZip
-        (WasAnswered F.failures F.may_leave F.allowed folder.old folder.new) paths.now records.items) }
-    ensures err { IfErr result (IsOfMachine (F.failures folder.old) (F.failures folder.new)) }
+        (WasAnswered F.device folder.old folder.new) paths.now records.items) }
+    ensures err { IfErr result (IsOfMachine (F.device.failures folder.old) (F.device.failures folder.new)) }
 {
     let mut reader = RecordReader::new(alloc);
     let mut records = Vec::new(alloc);
@@ -73,17 +71,15 @@ fn read_some<F: Folder>(
     paths: &[TaskPath],
     reader: &mut RecordReader,
 ) -> Result<Vec<Option<Record>>, Fault>
-    ensures requests { Requests F.failures F.may_leave F.allowed no_change folder.old folder.new }
-    ensures back { F.faithful folder.new → F.faithful folder.old }
-    ensures blame { Blames result (F.failures folder.old) (F.failures folder.new) }
+    ensures reads { OnlyReads F.device folder.old folder.new }
+    ensures blame { Blames result (F.device.failures folder.old) (F.device.failures folder.new) }
     ensures blamed { BlamesOnly (λ place. list_any (λ path. is_at (record_place path) place) paths.now)
         result }
-    ensures same { F.faithful folder.new → F.contents folder.new ≡ F.contents folder.old }
-    ensures read { F.faithful folder.new → IfOk result
-        (λ records. AllZip (IsReadAt (F.contents folder.old).files) paths.now records.items) }
+    ensures read { F.device.faithful folder.new → IfOk result
+        (λ records. AllZip (IsReadAt (F.device.contents folder.old).files) paths.now records.items) }
     ensures answered { IfOk result (λ records. AllZip
-        (WasAnswered F.failures F.may_leave F.allowed folder.old folder.new) paths.now records.items) }
-    ensures err { IfErr result (IsOfMachine (F.failures folder.old) (F.failures folder.new)) }
+        (WasAnswered F.device folder.old folder.new) paths.now records.items) }
+    ensures err { IfErr result (IsOfMachine (F.device.failures folder.old) (F.device.failures folder.new)) }
 {
     let texts = read_texts(alloc, folder, paths)?;
     let records = records_in(alloc, reader, texts.as_slice());
@@ -97,17 +93,15 @@ fn read_texts<'a, F: Folder>(
     folder: &mut F,
     paths: &'a [TaskPath],
 ) -> Result<Vec<StoredText<'a>>, Fault>
-    ensures requests { Requests F.failures F.may_leave F.allowed no_change folder.old folder.new }
-    ensures back { F.faithful folder.new → F.faithful folder.old }
-    ensures blame { Blames result (F.failures folder.old) (F.failures folder.new) }
+    ensures reads { OnlyReads F.device folder.old folder.new }
+    ensures blame { Blames result (F.device.failures folder.old) (F.device.failures folder.new) }
     ensures blamed { BlamesOnly (λ place. list_any (λ path. is_at (record_place path) place) paths.now)
         result }
-    ensures same { F.faithful folder.new → F.contents folder.new ≡ F.contents folder.old }
-    ensures read { F.faithful folder.new → IfOk result
-        (λ texts. AllZip (IsStoredAt (F.contents folder.old).files) paths.now texts.items) }
+    ensures read { F.device.faithful folder.new → IfOk result
+        (λ texts. AllZip (IsStoredAt (F.device.contents folder.old).files) paths.now texts.items) }
     ensures answered { IfOk result (λ texts. AllZip
-        (WasStoredAt F.failures F.may_leave F.allowed folder.old folder.new) paths.now texts.items) }
-    ensures err { IfErr result (IsOfMachine (F.failures folder.old) (F.failures folder.new)) }
+        (WasStoredAt F.device folder.old folder.new) paths.now texts.items) }
+    ensures err { IfErr result (IsOfMachine (F.device.failures folder.old) (F.device.failures folder.new)) }
 {
     let mut texts = Vec::new(alloc);
     for path in paths {
@@ -123,15 +117,14 @@ fn read_text<F: Folder>(
     folder: &mut F,
     path: &TaskPath,
 ) -> Result<Option<Bytes>, Fault>
-    ensures requests { Requests F.failures F.may_leave F.allowed no_change folder.old folder.new }
-    ensures back { F.faithful folder.new → F.faithful folder.old }
-    ensures blame { Blames result (F.failures folder.old) (F.failures folder.new) }
+    ensures reads { OnlyReads F.device folder.old folder.new }
+    ensures blame { Blames result (F.device.failures folder.old) (F.device.failures folder.new) }
     ensures blamed { BlamesOnly (is_at (record_place path.now)) result }
-    ensures same { F.faithful folder.new → F.contents folder.new ≡ F.contents folder.old }
-    ensures read { F.faithful folder.new → IfOk result (IsTextAt (F.contents folder.old).files path.now) }
+    ensures read { F.device.faithful folder.new → IfOk result (IsTextAt (F.device.contents folder.old).files
+        path.now) }
     ensures answered { IfOk result
-        (WasTextAnswered F.failures F.may_leave F.allowed folder.old folder.new path.now) }
-    ensures err { IfErr result (IsOfMachine (F.failures folder.old) (F.failures folder.new)) }
+        (WasTextAnswered F.device folder.old folder.new path.now) }
+    ensures err { IfErr result (IsOfMachine (F.device.failures folder.old) (F.device.failures folder.new)) }
 {
     let place = match record_place(alloc, path) {
         Ok(place) => place,

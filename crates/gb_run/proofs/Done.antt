@@ -7,7 +7,8 @@ use Rattle.gb_report.specs.declared.fault.Fault.{Fault}
 use Rattle.gb_store.proofs.Loops.{step_here}
 use Rattle.gb_run.specs.Steps.{Step}
 use Rattle.gb_folder.specs.Semantics.{Answer}
-use Rattle.gb_folder.specs.Device.{Device, Leads}
+use Rattle.gb_folder.specs.Calls.{Device}
+use Rattle.gb_folder.specs.Device.{Leads}
 use Rattle.gb_run.specs.Doing.{Does, OrEnds, Ending, Tried, call_of, ending_of}
 use Rattle.gb_folder.proofs.Leading.{leads_on, leads_once}
 

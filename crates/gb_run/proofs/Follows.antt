@@ -14,7 +14,8 @@ use Rattle.gb_store.proofs.Emptied.{blocked_none, without_none}
 use Rattle.gb_run.specs.Steps.{Step, folder_after}
 use Rattle.gb_run.specs.Stepping.{HasRoom, IsCutShort, IsFree, IsShutOut, IsSmall}
 use Rattle.gb_folder.specs.Semantics.{Answer, Answers, AnswersAll}
-use Rattle.gb_folder.specs.Device.{Device, Leads}
+use Rattle.gb_folder.specs.Calls.{Device}
+use Rattle.gb_folder.specs.Device.{Leads}
 use Rattle.gb_run.specs.Doing.{Does, OrEnds, Ending, call_of, ending_of}
 use Rattle.gb_folder.proofs.Leading.{count_of}
 

@@ -5,7 +5,8 @@ use Rattle.std.proofs.lemmas.List.{append-nil}
 use Rattle.std.specs.Global.{Global}
 use Rattle.std.specs.declared.vec.Vec.{Vec}
 use Rattle.gb_folder.specs.Calls.{Call, Lists}
-use Rattle.gb_folder.specs.Device.{Device, Leads}
+use Rattle.gb_folder.specs.Calls.{Device}
+use Rattle.gb_folder.specs.Device.{Leads}
 use Rattle.gb_folder.specs.Each.{Each, Ended}
 use Rattle.gb_folder.specs.Files.{Place}
 use Rattle.gb_folder.specs.declared.folder.FolderFault.{FolderFault}

@@ -8,7 +8,8 @@ use Rattle.gb_report.specs.declared.fault.Fault.TheVariants as faults
 use Rattle.gb_plan.specs.Task.{Text}
 use Rattle.gb_store.proofs.Loops.{step_here}
 use Rattle.gb_run.proofs.Endings.{with_none}
-use Rattle.gb_folder.specs.Device.{Device, Leads}
+use Rattle.gb_folder.specs.Calls.{Device}
+use Rattle.gb_folder.specs.Device.{Leads}
 use Rattle.gb_run.specs.Doing.{Does, Ending}
 use Rattle.gb_run.specs.Work.{DoesParts, OrPrints, Part}
 use Rattle.gb_run.specs.Worked.{part_held}

@@ -21,7 +21,8 @@ use Rattle.gb_run.specs.RunInput.{RunInput, EndsWell, run_input}
 use Rattle.gb_run.specs.Failing.{Fails, InFull, RunMode}
 use Rattle.gb_run.specs.Steps.{Step}
 use Rattle.gb_folder.specs.Semantics.{AnswersAll}
-use Rattle.gb_folder.specs.Device.{Device, Leads}
+use Rattle.gb_folder.specs.Calls.{Device}
+use Rattle.gb_folder.specs.Device.{Leads}
 use Rattle.gb_run.specs.Doing.{Does, Ending}
 use Rattle.gb_run.specs.Work.{DoesParts, OrPrints, RunsInFull, Work, ending, or_fault, or_made, or_stop, part_of, with_part, work_of}
 use Rattle.gb_run.specs.WorkByChanges.{Increment, IsWorkByChanges, RunsByChanges}

@@ -1,7 +1,8 @@
 -- Steps done in a folder: by which calls, and how they end.
 use Rattle.std.specs.Prelude.{◌≡◌, ◌⊎◌, List, [], ◌∷◌, Some, None, Ok, Err}
 use Rattle.gb_folder.specs.Calls.{Call, Writes, Removes}
-use Rattle.gb_folder.specs.Device.{Device, IsCalled}
+use Rattle.gb_folder.specs.Calls.{Device}
+use Rattle.gb_folder.specs.Device.{IsCalled}
 use Rattle.gb_folder.specs.Each.{Ended}
 use Rattle.gb_folder.specs.Files.{Place}
 use Rattle.gb_folder.specs.Limits.{max_file}

@@ -63,7 +63,6 @@ pub fn run_by_changes<A: Actions, F: Folder>(
     requires no_lines { lines.old ≡ [] }
     ensures named { IfOk result (λ made.
         map (λ prints. prints.0) made.items ≡ map (λ output. output.name) task.now.outputs) }
-    ensures back { F.faithful folder.new → F.faithful folder.old }
     ensures made { IfOk result (λ made. (kinds : Kinds) → Agrees A.meanings table.now kinds
         → (old : Trees) (existing : Files)
         → IsTrue (is_sorted byte_order existing) → IsTrue (are_placed existing)
@@ -74,23 +73,27 @@ pub fn run_by_changes<A: Actions, F: Folder>(
         × AreAtOutputs task.now calls × ((kinds : Kinds) → Agrees A.meanings table.now kinds
         → RunsByChanges (increment_of kinds task.now files changes outputs) calls lines.new
         (ending result)) }
-    ensures requests { Requests F.failures F.may_leave F.allowed (changes_at (is_output_of task.now))
+    ensures requests { Requests F.device (changes_at (is_output_of task.now))
         folder.old
         folder.new }
-    ensures blame { Blames result (F.failures folder.old) (F.failures folder.new) }
+    ensures blame { Blames result (F.device.failures folder.old) (F.device.failures folder.new) }
     ensures blamed { BlamesOnly (is_output_of task.now) result }
-    ensures changes { F.faithful folder.new
-        → ChangesOnly (is_output_of task.now) (F.contents folder.old) (F.contents folder.new) }
-    ensures ok { F.faithful folder.new → OnOk result ((kinds : Kinds) → Agrees A.meanings table.now kinds
-        → (old : Trees) → GoesOn kinds task.now old files changes outputs (F.contents folder.old).files
-        → EndsWell (run_input kinds task.now files changes (rest_of task.now (F.contents folder.old).files))
-        lines.new (F.contents folder.new).files) }
-    ensures err { F.faithful folder.new → IfErr result
+    ensures changes { F.device.faithful folder.new
+        → ChangesOnly (is_output_of task.now) (F.device.contents folder.old) (F.device.contents folder.new) }
+    ensures ok { F.device.faithful folder.new → OnOk result ((kinds : Kinds)
+        → Agrees A.meanings table.now kinds
+        → (old : Trees) → GoesOn kinds task.now old files changes outputs (F.device.contents folder.old).files
+        → EndsWell (run_input kinds task.now files changes (rest_of task.now
+        (F.device.contents folder.old).files))
+        lines.new (F.device.contents folder.new).files) }
+    ensures err { F.device.faithful folder.new → IfErr result
         (λ fault. (kinds : Kinds) → Agrees A.meanings table.now kinds
-        → (old : Trees) → GoesOn kinds task.now old files changes outputs (F.contents folder.old).files
-        → Fails (run_input kinds task.now files changes (rest_of task.now (F.contents folder.old).files))
-        (ByChanges (F.contents folder.old).files) (F.may_leave folder.old) (F.failures folder.old) fault
-        lines.new (F.failures folder.new) (F.contents folder.new).files) }
+        → (old : Trees) → GoesOn kinds task.now old files changes outputs (F.device.contents folder.old).files
+        → Fails (run_input kinds task.now files changes (rest_of task.now
+        (F.device.contents folder.old).files))
+        (ByChanges (F.device.contents folder.old).files) (F.device.may_leave folder.old)
+        (F.device.failures folder.old) fault
+        lines.new (F.device.failures folder.new) (F.device.contents folder.new).files) }
 {
     let Work { parts, made } = work_by_changes::<A>(
         alloc, task, table, files, outputs, existed, changes,

@@ -2,7 +2,7 @@
 ghost use Rattle.std.specs.Prelude.{◌≡◌, ◌⊎◌, [], List, Some, IsTrue, IfOk, IfErr, OnOk};
 ghost use Rattle.std.specs.List.{list_all};
 ghost use Rattle.gb_core.specs.Lists.{first_of};
-ghost use Rattle.gb_folder.specs.Calls.{Requests, Call, no_change, takes_at};
+ghost use Rattle.gb_folder.specs.Calls.{OnlyReads, Requests, Call, takes_at};
 ghost use Rattle.gb_folder.specs.Device.{Leads};
 ghost use Rattle.gb_folder.specs.Each.{Each};
 ghost use Rattle.gb_folder.specs.Files.{Place};
@@ -34,20 +34,20 @@ pub fn empty_outputs<F: Folder>(
     // Over any folder: by these calls.
     ensures calls { (calls : List Call) × Leads F.device folder.old calls folder.new
         × Emptying task.now.outputs calls result }
-    ensures back { F.faithful folder.new → F.faithful folder.old }
-    ensures requests { Requests F.failures F.may_leave F.allowed (takes_at (is_output_of task.now)) folder.old
+    ensures requests { Requests F.device (takes_at (is_output_of task.now)) folder.old
         folder.new }
-    ensures blame { Blames result (F.failures folder.old) (F.failures folder.new) }
+    ensures blame { Blames result (F.device.failures folder.old) (F.device.failures folder.new) }
     ensures blamed { BlamesOnly (is_output_of task.now) result }
-    ensures changes { F.faithful folder.new
-        → ChangesOnly (is_output_of task.now) (F.contents folder.old) (F.contents folder.new) }
-    ensures ok { F.faithful folder.new → OnOk result
-        ((F.contents folder.new).files ≡ rest_of task.now (F.contents folder.old).files) }
-    ensures none_special { F.faithful folder.new → OnOk result
-        (listing_faults task.now (F.contents folder.old) ≡ []) }
-    ensures err { F.faithful folder.new → IfErr result (λ fault.
-        CannotEmpty task.now (F.may_leave folder.old) (F.failures folder.old) (F.contents folder.old) fault
-        (F.failures folder.new) (F.contents folder.new)) }
+    ensures changes { F.device.faithful folder.new
+        → ChangesOnly (is_output_of task.now) (F.device.contents folder.old) (F.device.contents folder.new) }
+    ensures ok { F.device.faithful folder.new → OnOk result
+        ((F.device.contents folder.new).files ≡ rest_of task.now (F.device.contents folder.old).files) }
+    ensures none_special { F.device.faithful folder.new → OnOk result
+        (listing_faults task.now (F.device.contents folder.old) ≡ []) }
+    ensures err { F.device.faithful folder.new → IfErr result (λ fault.
+        CannotEmpty task.now (F.device.may_leave folder.old) (F.device.failures folder.old)
+        (F.device.contents folder.old) fault
+        (F.device.failures folder.new) (F.device.contents folder.new)) }
 {
     let places = listed_outputs(alloc, folder, task.outputs.as_slice())?;
     remove_all(folder, places.as_slice())
@@ -64,19 +64,17 @@ pub fn listed_outputs<F: Folder>(
     ensures calls { (calls : List Call) × (places : List Place) × Leads F.device folder.old calls folder.new
         × Each Listing outputs.now calls places (ending result)
         × IfOk result (λ found. found.items ≡ places) }
-    ensures back { F.faithful folder.new → F.faithful folder.old }
-    ensures requests { Requests F.failures F.may_leave F.allowed no_change folder.old folder.new }
-    ensures blame { Blames result (F.failures folder.old) (F.failures folder.new) }
+    ensures reads { OnlyReads F.device folder.old folder.new }
+    ensures blame { Blames result (F.device.failures folder.old) (F.device.failures folder.new) }
     ensures blamed { BlamesOnly (is_at_output outputs.now) result }
     ensures under { IfOk result (λ places. IsTrue (list_all (is_at_output outputs.now) places.items)) }
-    ensures same { F.faithful folder.new → F.contents folder.new ≡ F.contents folder.old }
-    ensures listed { F.faithful folder.new → IfOk result
-        (λ places. places.items ≡ places_at outputs.now (F.contents folder.old).files) }
-    ensures none_special { F.faithful folder.new → OnOk result
-        (special_faults outputs.now (F.contents folder.old) ≡ []) }
-    ensures special { F.faithful folder.new → IfErr result
-        (λ fault. IsOfMachine (F.failures folder.old) (F.failures folder.new) fault
-        ⊎ (first_of (special_faults outputs.now (F.contents folder.old)) ≡ Some fault)) }
+    ensures listed { F.device.faithful folder.new → IfOk result
+        (λ places. places.items ≡ places_at outputs.now (F.device.contents folder.old).files) }
+    ensures none_special { F.device.faithful folder.new → OnOk result
+        (special_faults outputs.now (F.device.contents folder.old) ≡ []) }
+    ensures special { F.device.faithful folder.new → IfErr result
+        (λ fault. IsOfMachine (F.device.failures folder.old) (F.device.failures folder.new) fault
+        ⊎ (first_of (special_faults outputs.now (F.device.contents folder.old)) ≡ Some fault)) }
 {
     let mut places = Vec::new(alloc);
     for output in outputs.iter() {

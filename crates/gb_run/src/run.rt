@@ -47,7 +47,6 @@ pub fn run_in_full<A: Actions, F: Folder>(
     requires no_lines { lines.old ≡ [] }
     ensures named { IfOk result (λ made.
         map (λ prints. prints.0) made.items ≡ map (λ output. output.name) task.now.outputs) }
-    ensures back { F.faithful folder.new → F.faithful folder.old }
     ensures made { IfOk result (λ made. (kinds : Kinds) → Agrees A.meanings table.now kinds → (held : Files)
         × (made_of kinds task.now.actions task.now.values files task.now.outputs ≡ Ok held)
         × (made.items ≡ prints_at task.now.outputs held)) }
@@ -56,21 +55,22 @@ pub fn run_in_full<A: Actions, F: Folder>(
     ensures calls { (calls : List Call) × Leads F.device folder.old calls folder.new
         × AreAtOutputs task.now calls × ((kinds : Kinds) → Agrees A.meanings table.now kinds
         → RunsInFull (run_input kinds task.now files changes []) calls lines.new (ending result)) }
-    ensures requests { Requests F.failures F.may_leave F.allowed (changes_at (is_output_of task.now))
+    ensures requests { Requests F.device (changes_at (is_output_of task.now))
         folder.old
         folder.new }
-    ensures blame { Blames result (F.failures folder.old) (F.failures folder.new) }
+    ensures blame { Blames result (F.device.failures folder.old) (F.device.failures folder.new) }
     ensures blamed { BlamesOnly (is_output_of task.now) result }
-    ensures changes { F.faithful folder.new
-        → ChangesOnly (is_output_of task.now) (F.contents folder.old) (F.contents folder.new) }
-    ensures ok { F.faithful folder.new → OnOk result ((kinds : Kinds) → Agrees A.meanings table.now kinds
-        → EndsWell (run_input kinds task.now files changes (F.contents folder.old).files)
-        lines.new (F.contents folder.new).files) }
-    ensures err { F.faithful folder.new → IfErr result
+    ensures changes { F.device.faithful folder.new
+        → ChangesOnly (is_output_of task.now) (F.device.contents folder.old) (F.device.contents folder.new) }
+    ensures ok { F.device.faithful folder.new → OnOk result ((kinds : Kinds)
+        → Agrees A.meanings table.now kinds
+        → EndsWell (run_input kinds task.now files changes (F.device.contents folder.old).files)
+        lines.new (F.device.contents folder.new).files) }
+    ensures err { F.device.faithful folder.new → IfErr result
         (λ fault. (kinds : Kinds) → Agrees A.meanings table.now kinds
-        → Fails (run_input kinds task.now files changes (F.contents folder.old).files) InFull
-        (F.may_leave folder.old) (F.failures folder.old) fault
-        lines.new (F.failures folder.new) (F.contents folder.new).files) }
+        → Fails (run_input kinds task.now files changes (F.device.contents folder.old).files) InFull
+        (F.device.may_leave folder.old) (F.device.failures folder.old) fault
+        lines.new (F.device.failures folder.new) (F.device.contents folder.new).files) }
 {
     let Work { parts, made } = work_in_full::<A>(alloc, task, table, files, changes)?;
     let done = do_parts(alloc, folder, parts.as_slice(), lines);

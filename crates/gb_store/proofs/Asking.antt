@@ -7,10 +7,11 @@ use Rattle.gb_folder.specs.Files.{Place, Tearing}
 use Rattle.gb_folder.proofs.Asked.{requests_taken, take_at}
 use Rattle.gb_store.specs.Changes.{is_among, is_at}
 use Rattle.gb_store.proofs.Loops.{any_here}
+use Rattle.gb_folder.specs.Calls.{Device}
 
 -- the file at one of these places is removed
-pub taken_among : {F : Type 0} {failures : F → ℕ} {may_leave : F → Tearing} {allowed : F → Call → F → Type 0} {old new : F}
+pub taken_among : {F : Type 0} {device : Device F} {old new : F}
     (places : List Place) (i : ℕ) (place : Place) → i < length places → place ≡ get_or places i place
-    → Requests failures may_leave allowed (taken_at place) old new → Requests failures may_leave allowed (takes_at (is_among places)) old new
+    → Requests device (taken_at place) old new → Requests device (takes_at (is_among places)) old new
 taken_among places i place within is takes =
     requests_taken place (take_at (is_among places) place (any_here (λ other. is_at other place) places i place within is ((bytes_decides place place).1 refl))) takes

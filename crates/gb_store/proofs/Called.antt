@@ -4,7 +4,7 @@ use Rattle.std.proofs.Common.{refl, sym, ap, subst, ◌∙◌, inl, inr}
 use Rattle.std.specs.Global.{Global}
 use Rattle.std.specs.declared.vec.Vec.{Vec}
 use Rattle.gb_folder.specs.Calls.{Removes, answered}
-use Rattle.gb_folder.specs.Device.{Device}
+use Rattle.gb_folder.specs.Calls.{Device}
 use Rattle.gb_folder.specs.Each.{Ended}
 use Rattle.gb_folder.specs.Files.{Place}
 use Rattle.gb_folder.specs.declared.folder.FolderFault.{FolderFault}

@@ -3,7 +3,8 @@ use Rattle.std.specs.Prelude.{◌≡◌, ◌⊎◌, List, [], ◌∷◌, Result,
 use Rattle.std.specs.Global.{Global}
 use Rattle.std.specs.declared.vec.Vec.{Vec}
 use Rattle.gb_folder.specs.Calls.{Call, Lists, Removes}
-use Rattle.gb_folder.specs.Device.{Device, IsCalled}
+use Rattle.gb_folder.specs.Calls.{Device}
+use Rattle.gb_folder.specs.Device.{IsCalled}
 use Rattle.gb_folder.specs.Each.{Each, Ended}
 use Rattle.gb_folder.specs.Files.{Place}
 use Rattle.gb_folder.specs.Semantics.{Answer}

@@ -2,7 +2,7 @@
 ghost use Rattle.std.specs.Prelude.{◌≡◌, ◌⊎◌, false, IsTrue, IfOk, IfErr, OnOk};
 ghost use Rattle.std.specs.List.{AllPass};
 ghost use Rattle.gb_core.specs.Place.{is_under};
-ghost use Rattle.gb_folder.specs.Calls.{Requests, no_change};
+ghost use Rattle.gb_folder.specs.Calls.{OnlyReads};
 ghost use Rattle.gb_folder.specs.Files.{is_special_under, places_under};
 ghost use Rattle.gb_store.specs.Changes.{is_at};
 ghost use Rattle.gb_store.specs.Faults.{Blames, BlamesOnly, IsOfMachine};
@@ -22,19 +22,17 @@ pub fn listed_at<F: Folder>(
 ) -> Result<Vec<Place>, Fault>
     // Over any folder: by one call.
     ensures call { WasListed F.device place.now folder.old result folder.new }
-    ensures back { F.faithful folder.new → F.faithful folder.old }
-    ensures requests { Requests F.failures F.may_leave F.allowed no_change folder.old folder.new }
-    ensures blame { Blames result (F.failures folder.old) (F.failures folder.new) }
+    ensures reads { OnlyReads F.device folder.old folder.new }
+    ensures blame { Blames result (F.device.failures folder.old) (F.device.failures folder.new) }
     ensures blamed { BlamesOnly (is_at place.now) result }
     ensures under { IfOk result (λ places. AllPass (λ at. is_under at place.now) places.items) }
-    ensures same { F.faithful folder.new → F.contents folder.new ≡ F.contents folder.old }
-    ensures listed { F.faithful folder.new → IfOk result
-        (λ places. places.items ≡ places_under (F.contents folder.old).files place.now) }
-    ensures none_special { F.faithful folder.new → OnOk result
-        (is_special_under (F.contents folder.old) place.now ≡ false) }
-    ensures special { F.faithful folder.new → IfErr result
-        (λ fault. IsOfMachine (F.failures folder.old) (F.failures folder.new) fault
-        ⊎ (IsTrue (is_special_under (F.contents folder.old) place.now)
+    ensures listed { F.device.faithful folder.new → IfOk result
+        (λ places. places.items ≡ places_under (F.device.contents folder.old).files place.now) }
+    ensures none_special { F.device.faithful folder.new → OnOk result
+        (is_special_under (F.device.contents folder.old) place.now ≡ false) }
+    ensures special { F.device.faithful folder.new → IfErr result
+        (λ fault. IsOfMachine (F.device.failures folder.old) (F.device.failures folder.new) fault
+        ⊎ (IsTrue (is_special_under (F.device.contents folder.old) place.now)
         × (fault ≡ Fault.BadFileName place.now))) }
 {
     match folder.list(alloc, place) {

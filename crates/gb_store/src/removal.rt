@@ -17,21 +17,20 @@ pub fn remove_all<F: Folder>(folder: &mut F, places: &[Place]) -> Result<(), Fau
     // Over any folder: by these calls.
     ensures calls { (calls : List Call) × Leads F.device folder.old calls folder.new
         × Removals places.now calls result }
-    ensures back { F.faithful folder.new → F.faithful folder.old }
-    ensures requests { Requests F.failures F.may_leave F.allowed (takes_at (is_among places.now)) folder.old
+    ensures requests { Requests F.device (takes_at (is_among places.now)) folder.old
         folder.new }
-    ensures blame { Blames result (F.failures folder.old) (F.failures folder.new) }
+    ensures blame { Blames result (F.device.failures folder.old) (F.device.failures folder.new) }
     ensures blamed { BlamesOnly (is_among places.now) result }
-    ensures ok { F.faithful folder.new
-        → OnOk result (F.contents folder.new ≡ without_all (F.contents folder.old) places.now) }
-    ensures err { F.faithful folder.new
-        → IfErr result (IsOfMachine (F.failures folder.old) (F.failures folder.new)) }
-    ensures cut { F.faithful folder.new → IfErr result
-        (λ fault. IsCutShort (F.may_leave folder.old) places.now (F.contents folder.old)
-        fault (F.contents folder.new)) }
-    ensures changes { F.faithful folder.new → (test : List ℕ → Bool)
+    ensures ok { F.device.faithful folder.new
+        → OnOk result (F.device.contents folder.new ≡ without_all (F.device.contents folder.old) places.now) }
+    ensures err { F.device.faithful folder.new
+        → IfErr result (IsOfMachine (F.device.failures folder.old) (F.device.failures folder.new)) }
+    ensures cut { F.device.faithful folder.new → IfErr result
+        (λ fault. IsCutShort (F.device.may_leave folder.old) places.now (F.device.contents folder.old)
+        fault (F.device.contents folder.new)) }
+    ensures changes { F.device.faithful folder.new → (test : List ℕ → Bool)
         → AllByRecursion (λ place. test place ≡ true) places.now
-        → ChangesOnly test (F.contents folder.old) (F.contents folder.new) }
+        → ChangesOnly test (F.device.contents folder.old) (F.device.contents folder.new) }
 {
     for place in places.iter() {
         remove_at(folder, place)?;
@@ -44,19 +43,19 @@ pub fn remove_all<F: Folder>(folder: &mut F, places: &[Place]) -> Result<(), Fau
 pub fn remove_at<F: Folder>(folder: &mut F, place: &Place) -> Result<(), Fault>
     // Over any folder: by one call.
     ensures call { WasRemoved F.device place.now folder.old result folder.new }
-    ensures back { F.faithful folder.new → F.faithful folder.old }
-    ensures requests { Requests F.failures F.may_leave F.allowed (taken_at place.now) folder.old folder.new }
-    ensures blame { Blames result (F.failures folder.old) (F.failures folder.new) }
+    ensures requests { Requests F.device (taken_at place.now) folder.old folder.new }
+    ensures blame { Blames result (F.device.failures folder.old) (F.device.failures folder.new) }
     ensures blamed { BlamesOnly (is_at place.now) result }
-    ensures ok { F.faithful folder.new
-        → OnOk result (F.contents folder.new ≡ without_all (F.contents folder.old) (place.now ∷ [])) }
-    ensures err { F.faithful folder.new
-        → IfErr result (IsOfMachine (F.failures folder.old) (F.failures folder.new)) }
-    ensures hindered { F.faithful folder.new → IfErr result
-        (λ fault. IsHindered (F.may_leave folder.old) place.now None (F.contents folder.old)
-        fault (F.contents folder.new)) }
-    ensures changes { F.faithful folder.new → (test : List ℕ → Bool) → test place.now ≡ true
-        → ChangesOnly test (F.contents folder.old) (F.contents folder.new) }
+    ensures ok { F.device.faithful folder.new
+        → OnOk result (F.device.contents folder.new ≡ without_all (F.device.contents folder.old)
+        (place.now ∷ [])) }
+    ensures err { F.device.faithful folder.new
+        → IfErr result (IsOfMachine (F.device.failures folder.old) (F.device.failures folder.new)) }
+    ensures hindered { F.device.faithful folder.new → IfErr result
+        (λ fault. IsHindered (F.device.may_leave folder.old) place.now None (F.device.contents folder.old)
+        fault (F.device.contents folder.new)) }
+    ensures changes { F.device.faithful folder.new → (test : List ℕ → Bool) → test place.now ≡ true
+        → ChangesOnly test (F.device.contents folder.old) (F.device.contents folder.new) }
 {
     let at = place.copy()?;
     match folder.remove(place) {

@@ -34,6 +34,5 @@ mod Places
 pub mod Made
 pub mod Truth
 pub mod Answered
-mod Ran
 pub mod ByOutcome
 mod SeenAfter

@@ -11,11 +11,11 @@ use Rattle.gb_action.specs.Files.{Trees}
 use Rattle.gb_action.specs.Meanings.{Meanings}
 use Rattle.gb_action.specs.declared.output.OutputFiles.{OutputFiles}
 use Rattle.gb_core.specs.Place.{is_under}
-use Rattle.gb_folder.specs.Calls.{Requests, Call, IsPermitted, Lists, Reads, ReadsPart, Removes, Writes, changes_at, taken_at, takes_at}
+use Rattle.gb_folder.specs.Calls.{Requests, Call, IsPermitted, Lists, Reads, ReadsPart, Removes, Writes, changes_at, taken_at, takes_at, Device}
 use Rattle.gb_folder.proofs.Asked.{requests_taken, take_at, takes_where}
-use Rattle.gb_folder.specs.Device.{Device, Leads, device_of}
+use Rattle.gb_folder.specs.Device.{Leads}
 use Rattle.gb_folder.specs.Each.{Each, Ended, OrStops}
-use Rattle.gb_folder.specs.Files.{Place, Tearing, is_empty}
+use Rattle.gb_folder.specs.Files.{Place, is_empty}
 use Rattle.gb_folder.specs.declared.folder.FolderFault.{FolderFault}
 use Rattle.gb_folder.proofs.Leading.{requests_of}
 use Rattle.gb_history.specs.Places.{record_place}
@@ -36,7 +36,7 @@ use Rattle.gb_run.specs.Work.{AreAtOutputs}
 use Rattle.gb_store.specs.Changes.{is_at}
 use Rattle.gb_store.specs.Removals.{Removal, Removals}
 use Rattle.gb_task.specs.Executing.{is_of_execution}
-use Rattle.gb_task.specs.Ran.{AreAnswered, WasDone}
+use Rattle.gb_task.specs.Ran.{WasDone}
 use Rattle.gb_task.specs.Stages.{Clears, DeletesRecord, FullRun, IsOfFullRun, IsOfRunByChanges, RunByChanges, Silently, Stage, Stores, StoresUnless, Then, WritesAll, WritesChanges}
 
 -- the record's place is one of the execution's
@@ -47,13 +47,13 @@ at_record task = or_right (is_output_of task (record_place task.path)) (is_at (r
 at_output : (task : Task) (place : Place) → is_output_of task place ≡ true → is_of_execution task place ≡ true
 at_output task place is = ap (λ b. b || is_at (record_place task.path) place) is
 
-module _ {F : Type 0} {failures : F → ℕ} {may_leave : F → Tearing} {allowed : F → Call → F → Type 0} {old new : F} where
+module _ {F : Type 0} {device : Device F} {old new : F} where
   -- the record is deleted
-  pub record_taken : (task : Task) → Requests failures may_leave allowed (taken_at (record_place task.path)) old new → Requests failures may_leave allowed (takes_at (is_of_execution task)) old new
+  pub record_taken : (task : Task) → Requests device (taken_at (record_place task.path)) old new → Requests device (takes_at (is_of_execution task)) old new
   record_taken task takes = requests_taken (record_place task.path) (take_at (is_of_execution task) (record_place task.path) (at_record task)) takes
 
   -- the outputs are emptied
-  pub outputs_taken : (task : Task) → Requests failures may_leave allowed (takes_at (is_output_of task)) old new → Requests failures may_leave allowed (takes_at (is_of_execution task)) old new
+  pub outputs_taken : (task : Task) → Requests device (takes_at (is_output_of task)) old new → Requests device (takes_at (is_of_execution task)) old new
   outputs_taken task takes = takes_where (is_output_of task) (is_of_execution task) (at_output task) takes
 
 -- ---- calls one after another
@@ -148,13 +148,13 @@ found_under {F = F} device (output ∷ outputs) calls places old new led lists =
 
 -- ---- the stages
 
-module _ {F : Type 0} (failures : F → ℕ) (may_leave : F → Tearing) (allowed : F → Call → F → Type 0) (task : Task) where
+module _ {F : Type 0} (device : Device F) (task : Task) where
   abbrev At : List Call → Type 0
   At calls = AllByRecursion (May (is_of_execution task)) calls
 
   -- in whatever folder it is done, the stage changes files there alone
   abbrev pub StageAt : Stage → Type 0
-  StageAt stage = (calls : List Call) (lines : List Text) (result : Ending) (old new : F) → AreAnswered failures may_leave allowed old calls new → stage calls lines result → At calls
+  StageAt stage = (calls : List Call) (lines : List Text) (result : Ending) (old new : F) → Leads device old calls new → stage calls lines result → At calls
 
   none_at : (calls : List Call) → calls ≡ [] → At calls
   none_at calls is = subst At (sym is) tt
@@ -166,8 +166,8 @@ module _ {F : Type 0} (failures : F → ℕ) (may_leave : F → Tearing) (allowe
   then_at first second one two calls lines result old new led does =
       subst At (sym does.5) (all_append (May (is_of_execution task)) does.0 does.1 (one does.0 does.2 does.4 old parts.0 parts.1 does.7) (rest does.4 does.8))
     where
-      parts : (mid : F) × AreAnswered failures may_leave allowed old does.0 mid × AreAnswered failures may_leave allowed mid does.1 new
-      parts = leads_split (device_of failures may_leave allowed (λ folder. ⊥) (λ folder. record { files = []; special = [] })) does.0 does.1 old new (subst (λ (cs : List Call). AreAnswered failures may_leave allowed old cs new) does.5 led)
+      parts : (mid : F) × Leads device old does.0 mid × Leads device mid does.1 new
+      parts = leads_split device does.0 does.1 old new (subst (λ (cs : List Call). Leads device old cs new) does.5 led)
 
       rest : (mid : Ending) → OrStops mid (second does.1 does.3 result) does.1 does.3 result → At does.1
       rest (Ok done) h = two does.1 does.3 result parts.0 new parts.2 h
@@ -202,8 +202,8 @@ module _ {F : Type 0} (failures : F → ℕ) (may_leave : F → Tearing) (allowe
       empties : Emptying task.outputs calls result
       empties = does.1
 
-      parts : (mid : F) × AreAnswered failures may_leave allowed old empties.0 mid × AreAnswered failures may_leave allowed mid empties.1 new
-      parts = leads_split (device_of failures may_leave allowed (λ folder. ⊥) (λ folder. record { files = []; special = [] })) empties.0 empties.1 old new (subst (λ (cs : List Call). AreAnswered failures may_leave allowed old cs new) empties.4 led)
+      parts : (mid : F) × Leads device old empties.0 mid × Leads device mid empties.1 new
+      parts = leads_split device empties.0 empties.1 old new (subst (λ (cs : List Call). Leads device old cs new) empties.4 led)
 
       rest : (mid : Ended Fault) → Each Listing task.outputs empties.0 empties.2 mid → OrEnds mid (Removals empties.2 empties.1 result) empties.1 result → At empties.1
       rest (Ok done) lists h =
@@ -242,7 +242,7 @@ module _ {F : Type 0} (failures : F → ℕ) (may_leave : F → Tearing) (allowe
         (stores_at (IsOfRunByChanges meanings rows task trees changes observed)))
 
   -- a stage that was done requests changes there alone
-  pub done_places : (stage : Stage) → StageAt stage → (lines : List Text) (result : Ending) (old new : F) → WasDone failures may_leave allowed stage lines result old new
-      → Requests failures may_leave allowed (changes_at (is_of_execution task)) old new
+  pub done_places : (stage : Stage) → StageAt stage → (lines : List Text) (result : Ending) (old new : F) → WasDone device stage lines result old new
+      → Requests device (changes_at (is_of_execution task)) old new
   done_places stage at lines result old new was =
-      requests_of (device_of failures may_leave allowed (λ folder. ⊥) (λ folder. record { files = []; special = [] })) (changes_at (is_of_execution task)) old new was.0 (at was.0 lines result old new was.1 was.2) was.1
+      requests_of device (changes_at (is_of_execution task)) old new was.0 (at was.0 lines result old new was.1 was.2) was.1

@@ -6,8 +6,8 @@ use Rattle.gb_action.specs.Changes.{Changes}
 use Rattle.gb_action.specs.Files.{Trees}
 use Rattle.gb_action.specs.Meanings.{Meanings}
 use Rattle.gb_action.specs.declared.output.OutputFiles.{OutputFiles}
-use Rattle.gb_folder.specs.Calls.{Call}
-use Rattle.gb_folder.specs.Device.{Device, Leads}
+use Rattle.gb_folder.specs.Calls.{Call, Device}
+use Rattle.gb_folder.specs.Device.{Leads}
 use Rattle.gb_folder.specs.Each.{Ended}
 use Rattle.gb_folder.specs.Files.{is_empty}
 use Rattle.gb_folder.proofs.Leading.{leads_on}

@@ -15,8 +15,7 @@ use Rattle.gb_action.specs.declared.change.Change.{Change}
 use Rattle.gb_action.specs.declared.output.Form.{Form}
 use Rattle.gb_action.specs.declared.output.OutputFiles.{OutputFiles}
 use Rattle.gb_core.specs.Lists.{byte_order}
-use Rattle.gb_folder.specs.Calls.{Call}
-use Rattle.gb_folder.specs.Files.{Place, Bytes, Files, IsFolder, Tearing, are_placed, file_at}
+use Rattle.gb_folder.specs.Files.{Place, Bytes, Files, IsFolder, are_placed, file_at}
 use Rattle.gb_history.specs.Decision.{IsAlike, changes_of, is_incremental}
 use Rattle.gb_history.specs.Record.{ArePrints, IsWellFormed, Prints, Record, prints_in}
 use Rattle.gb_history.specs.Text.{record_text}
@@ -48,16 +47,17 @@ use Rattle.gb_task.specs.Ran.{GoesFrom}
 use Rattle.gb_task.specs.Truth.{AreMadeOf, FullRunsAreTrue, IsTextOfTrue, IsTrueBeside, AreSeparate, RunsByChangesStayTrue, UpToDateIsMade, contents_read}
 use Rattle.gb_task.proofs.Made.{made_folder}
 use Rattle.gb_task.proofs.Since.{all_sorted}
+use Rattle.gb_folder.specs.Calls.{Device}
 
 -- ---- the record of what was made
 
 abbrev entry_by : Task → Trees → Files → Entry
 entry_by task trees files = record { actions = task.actions; values = task.values; inputs = trees; outputs = task.outputs; files = files }
 
-text_of_record : {F : Type 0} (failures : F → ℕ) (may_leave : F → Tearing) (allowed : F → Call → F → Type 0) (old read : F) (kinds : Kinds) (task : Task) (trees : Trees) (run : Record) (bytes : Bytes)
-    → AreInputsRead failures may_leave allowed old read task trees → map (λ (tree : List ℕ × Tree). tree.0) trees ≡ given_files task.files → IsRecordOf kinds task trees run
-    → bytes ≡ record_text task.path run → IsTextOfTrue failures may_leave allowed old kinds task bytes
-text_of_record failures may_leave allowed old read kinds task trees run bytes inputs named of text = record {
+text_of_record : {F : Type 0} (device : Device F) (old read : F) (kinds : Kinds) (task : Task) (trees : Trees) (run : Record) (bytes : Bytes)
+    → AreInputsRead device old read task trees → map (λ (tree : List ℕ × Tree). tree.0) trees ≡ given_files task.files → IsRecordOf kinds task trees run
+    → bytes ≡ record_text task.path run → IsTextOfTrue device old kinds task bytes
+text_of_record device old read kinds task trees run bytes inputs named of text = record {
   run = run;
   text = text;
   entry = entry_by task trees of.0;
@@ -71,9 +71,9 @@ text_of_record failures may_leave allowed old read kinds task trees run bytes in
   said = of.2;
 }
 
-pub full_runs_are_true : {F S : Type 0} (failures : F → ℕ) (may_leave : F → Tearing) (allowed : F → Call → F → Type 0) (meanings : Meanings S) → FullRunsAreTrue failures may_leave allowed meanings
-full_runs_are_true failures may_leave allowed meanings first read rows kinds task trees run agrees have full =
-    text_of_record failures may_leave allowed first read kinds task trees run (record_text task.path run) have.inputs have.named (full kinds agrees) refl
+pub full_runs_are_true : {F S : Type 0} (device : Device F) (meanings : Meanings S) → FullRunsAreTrue device meanings
+full_runs_are_true device meanings first read rows kinds task trees run agrees have full =
+    text_of_record device first read kinds task trees run (record_text task.path run) have.inputs have.named (full kinds agrees) refl
 
 -- ---- what the lists of changes say of trees
 
@@ -341,11 +341,11 @@ module _ (kinds : Kinds) (task : Task) (last : Record) (trees : Trees) (observed
 
 -- By a true record, the changes of an incremental run lead to the trees that were read from those of which
 -- what was read at the outputs was made.
-pub goes_from_true : {F : Type 0} (failures : F → ℕ) (may_leave : F → Tearing) (allowed : F → Call → F → Type 0) (kinds : Kinds) (options : Options) (task : Task) (last : Record) (trees : Trees)
+pub goes_from_true : {F : Type 0} (device : Device F) (kinds : Kinds) (options : Options) (task : Task) (last : Record) (trees : Trees)
     (changes : List Changes) (observed : List OutputFiles) (first read : F) → AreSeparate task → has_one_writer kinds task.actions ≡ true → IsWellFormed last
-    → GoesFrom failures may_leave allowed options task last trees changes observed first read → IsTrueBeside kinds last (contents_read trees observed)
+    → GoesFrom device options task last trees changes observed first read → IsTrueBeside kinds last (contents_read trees observed)
     → (before : Trees) × (existing : Files) × IsFolder existing × IsTrue (are_placed existing) × GoesOn kinds task before trees changes observed existing
-goes_from_true failures may_leave allowed kinds options task last trees changes observed first read lie one held on so = (
+goes_from_true device kinds options task last trees changes observed first read lie one held on so = (
   so.entry.inputs,
   so.entry.files,
   made_folder kinds task.outputs task.values so.entry.inputs task.actions so.entry.files made,
@@ -381,14 +381,14 @@ goes_from_true failures may_leave allowed kinds options task last trees changes 
     made : made_of kinds task.actions task.values so.entry.inputs task.outputs ≡ Ok so.entry.files
     made = made_then kinds task last trees observed lie on.formed so actions values outputs
 
-pub runs_by_changes_stay_true : {F S : Type 0} (failures : F → ℕ) (may_leave : F → Tearing) (allowed : F → Call → F → Type 0) (meanings : Meanings S) → RunsByChangesStayTrue failures may_leave allowed meanings
-runs_by_changes_stay_true failures may_leave allowed meanings first read rows kinds options task last trees changes observed run agrees lie one held have on by so =
-    let from = goes_from_true failures may_leave allowed kinds options task last trees changes observed first read lie one held on so in
-    text_of_record failures may_leave allowed first read kinds task trees run (record_text task.path run) have.inputs have.named
+pub runs_by_changes_stay_true : {F S : Type 0} (device : Device F) (meanings : Meanings S) → RunsByChangesStayTrue device meanings
+runs_by_changes_stay_true device meanings first read rows kinds options task last trees changes observed run agrees lie one held have on by so =
+    let from = goes_from_true device kinds options task last trees changes observed first read lie one held on so in
+    text_of_record device first read kinds task trees run (record_text task.path run) have.inputs have.named
     (by kinds agrees from.0 from.1 from.2 from.3 from.4) refl
 
-pub up_to_date_is_made : {F : Type 0} (failures : F → ℕ) (may_leave : F → Tearing) (allowed : F → Call → F → Type 0) → UpToDateIsMade failures may_leave allowed
-up_to_date_is_made failures may_leave allowed kinds options task last old new lie on so =
+pub up_to_date_is_made : {F : Type 0} (device : Device F) → UpToDateIsMade device
+up_to_date_is_made device kinds options task last old new lie on so =
     made_now kinds task on.run on.trees on.observed lie on.formed so
     (ap (λ (run : Record). run.actions) same) (ap (λ (run : Record). run.values) same)
     (ap (λ (run : Record). run.outputs) same) (ap (λ (run : Record). run.inputs) same)

@@ -1,9 +1,8 @@
 -- What an execution is based on, as calls returned it, over any folder.
-use Rattle.std.specs.Prelude.{ℕ, ◌≡◌, Bool, true, false, List, map, Option, Some}
+use Rattle.std.specs.Prelude.{◌≡◌, Bool, true, false, List, map, Option, Some}
 use Rattle.gb_action.specs.Files.{Trees}
 use Rattle.gb_action.specs.declared.output.OutputFiles.{OutputFiles}
-use Rattle.gb_folder.specs.Calls.{Call}
-use Rattle.gb_folder.specs.Files.{Tearing, is_empty}
+use Rattle.gb_folder.specs.Files.{is_empty}
 use Rattle.gb_history.specs.Decision.{DecidesFrom}
 use Rattle.gb_history.specs.Record.{Record}
 use Rattle.gb_history.specs.declared.decide.Decision.TheVariants as decisions
@@ -23,20 +22,20 @@ use Rattle.gb_task.specs.declared.recheck.Recheck.{Recheck}
 use Rattle.gb_task.specs.declared.recheck.Recheck.TheVariants as recheck
 use Rattle.gb_task.specs.declared.before_changes.Settled.{Settled}
 use Rattle.gb_task.specs.declared.before_changes.Settled.TheVariants as settled
+use Rattle.gb_folder.specs.Calls.{Device}
 
 -- The record that was read of the task finds it up to date, on trees and files that calls returned. By what
 -- they returned it has a source.
-pub record IsCurrentOn {F : Type 0} (failures : F → ℕ) (may_leave : F → Tearing)
-    (allowed : F → Call → F → Type 0) (options : Options) (task : Task) (last : Option Record)
-    (old new : F) : Type 0 where
+pub record IsCurrentOn {F : Type 0} (device : Device F) (options : Options) (task : Task)
+    (last : Option Record) (old new : F) : Type 0 where
   pub run : Record
   pub remembered : last ≡ Some run
   pub trees : Trees
-  pub inputs_read : AreInputsRead failures may_leave allowed old new task trees
+  pub inputs_read : AreInputsRead device old new task trees
   pub named : map (λ tree. tree.0) trees ≡ given_files task.files
-  pub sourced : WasSourced failures may_leave allowed old new task
+  pub sourced : WasSourced device old new task
   pub observed : List OutputFiles
-  pub outputs_read : AreOutputsRead failures may_leave allowed old new task observed
+  pub outputs_read : AreOutputsRead device old new task observed
   pub formed : map (λ output. (output.name, output.form)) observed ≡ given_outputs task.outputs
   pub present : Present
   pub has : IsPresentOf options task (digests_in trees)
@@ -44,23 +43,23 @@ pub record IsCurrentOn {F : Type 0} (failures : F → ℕ) (may_leave : F → Te
   pub decides : DecidesFrom run present decisions.UpToDate
 
 -- where a task that has actions is reported as up to date it was found so
-abbrev pub IsReportedCurrent : {F : Type 0} → (F → ℕ) → (F → Tearing) → (F → Call → F → Type 0) → Options
+abbrev pub IsReportedCurrent : {F : Type 0} → Device F → Options
     → Task
     → Option Record → F → F → Outcome → Type 0
-IsReportedCurrent failures may_leave allowed options task last old new outcome =
+IsReportedCurrent device options task last old new outcome =
     outcome ≡ outcomes.UpToDate → is_empty task.actions ≡ false
-    → IsCurrentOn failures may_leave allowed options task last old new
+    → IsCurrentOn device options task last old new
 
 -- An execution is prepared on the basis of what calls returned meanwhile. Where it is found that the task is
 -- up to date, they may have returned it since an earlier state.
-abbrev pub WasPreparedSince : {F : Type 0} → (F → ℕ) → (F → Tearing) → (F → Call → F → Type 0) → F → F → F
+abbrev pub WasPreparedSince : {F : Type 0} → Device F → F → F → F
     → Options → Task → Option Record → Prepared → Type 0
-WasPreparedSince failures may_leave allowed since old new options task last
+WasPreparedSince device since old new options task last
     (prepared.Decided decisions.UpToDate basis observed) =
-    WasPrepared failures may_leave allowed since new options task last
+    WasPrepared device since new options task last
     (prepared.Decided decisions.UpToDate basis observed)
-WasPreparedSince failures may_leave allowed since old new options task last found =
-    WasPrepared failures may_leave allowed old new options task last found
+WasPreparedSince device since old new options task last found =
+    WasPrepared device old new options task last found
 
 -- it was found that the task is up to date
 abbrev pub is_current : Prepared → Bool
@@ -68,22 +67,22 @@ is_current (prepared.Decided decisions.UpToDate basis observed) = true
 is_current found = false
 
 -- what is decided is based on what calls returned, and so are reports
-abbrev pub WasSettled : {F : Type 0} → (F → ℕ) → (F → Tearing) → (F → Call → F → Type 0) → F → F → F → Options
+abbrev pub WasSettled : {F : Type 0} → Device F → F → F → F → Options
     → Task → Option Record → Settled → Type 0
-WasSettled failures may_leave allowed since old new options task last (settled.Reported report) =
-    IsReportedCurrent failures may_leave allowed options task last since new report.outcome
-WasSettled failures may_leave allowed since old new options task last (settled.Sourceless path) =
-    WasSourceless failures may_leave allowed old new task
-WasSettled failures may_leave allowed since old new options task last (settled.Due path decision observed) =
-    AreInputsAnswered failures may_leave allowed old new task observed.inputs.items
-    × WasDecided failures may_leave allowed old new options task last observed.inputs.items decision
+WasSettled device since old new options task last (settled.Reported report) =
+    IsReportedCurrent device options task last since new report.outcome
+WasSettled device since old new options task last (settled.Sourceless path) =
+    WasSourceless device old new task
+WasSettled device since old new options task last (settled.Due path decision observed) =
+    AreInputsAnswered device old new task observed.inputs.items
+    × WasDecided device old new options task last observed.inputs.items decision
     observed.outputs.items
 
 -- and so is the result of the recheck
-abbrev pub WasReadRecheck : {F : Type 0} → (F → ℕ) → (F → Tearing) → (F → Call → F → Type 0) → F → F → Task
+abbrev pub WasReadRecheck : {F : Type 0} → Device F → F → F → Task
     → Recheck → Type 0
-WasReadRecheck failures may_leave allowed old new task (recheck.ByChanges inputs outputs changes) =
-    AreInputsRead failures may_leave allowed old new task inputs.trees
-    × AreOutputsRead failures may_leave allowed old new task outputs.observed
-WasReadRecheck failures may_leave allowed old new task (recheck.InFull inputs) =
-    AreInputsRead failures may_leave allowed old new task inputs.trees
+WasReadRecheck device old new task (recheck.ByChanges inputs outputs changes) =
+    AreInputsRead device old new task inputs.trees
+    × AreOutputsRead device old new task outputs.observed
+WasReadRecheck device old new task (recheck.InFull inputs) =
+    AreInputsRead device old new task inputs.trees

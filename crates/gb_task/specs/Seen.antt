@@ -1,7 +1,6 @@
 -- What is remembered of files that were read, when a task's execution is decided.
-use Rattle.std.specs.Prelude.{ℕ, ◌≡◌, ◌++◌, Bool, false, [], List, Result, Ok}
-use Rattle.gb_folder.specs.Calls.{Requests, Call, no_change}
-use Rattle.gb_folder.specs.Files.{Tearing}
+use Rattle.std.specs.Prelude.{◌≡◌, ◌++◌, Bool, false, [], List, Result, Ok}
+use Rattle.gb_folder.specs.Calls.{Requests, no_change, Device}
 use Rattle.gb_history.specs.declared.decide.Decision.TheVariants as decisions
 use Rattle.gb_label.specs.declared.prepare.Prepared.{Prepared}
 use Rattle.gb_label.specs.declared.prepare.Prepared.TheVariants as prepared
@@ -22,10 +21,10 @@ seen_by found need seen = []
 
 -- What is remembered after a report was read since the last change, as before the execution. Where the
 -- execution goes on, nothing is remembered.
-abbrev pub Remembers : {F : Type 0} → (F → ℕ) → (F → Tearing) → (F → Call → F → Type 0) → F → F
+abbrev pub Remembers : {F : Type 0} → Device F → F → F
     → List SeenFile → List SeenFile → Settled → Type 0
-Remembers failures may_leave allowed old new before seen (settled.Reported report) =
-    (since : _) → Requests failures may_leave allowed no_change since old
-    → AreSeen failures may_leave allowed since old before
-    → AreSeen failures may_leave allowed (since_after report.outcome since new) new seen
-Remembers failures may_leave allowed old new before seen result = seen ≡ []
+Remembers device old new before seen (settled.Reported report) =
+    (since : _) → Requests device no_change since old
+    → AreSeen device since old before
+    → AreSeen device (since_after report.outcome since new) new seen
+Remembers device old new before seen result = seen ≡ []

@@ -1,7 +1,7 @@
 //! The part of a task's execution that is decided before anything is changed.
 ghost use Rattle.std.specs.Prelude.{◌≡◌, false, option_copied};
 ghost use Rattle.std.specs.List.{list_any};
-ghost use Rattle.gb_folder.specs.Calls.{Requests, no_change};
+ghost use Rattle.gb_folder.specs.Calls.{OnlyReads, Requests, no_change};
 ghost use Rattle.gb_folder.specs.Files.{is_empty, is_own};
 ghost use Rattle.gb_label.specs.Deciding.{HasNamesInOrder};
 ghost use Rattle.gb_meaning.specs.Kinds.{Kinds};
@@ -66,35 +66,34 @@ pub fn settle<F: Folder>(
     requires in_order { HasNamesInOrder task.now }
     requires not_own { list_any (λ output. is_own output.place) task.now.outputs ≡ false }
     requires path { path ≡ task.now.path }
-    ensures requests { Requests F.failures F.may_leave F.allowed no_change folder.old folder.new }
-    ensures back { F.faithful folder.new → F.faithful folder.old }
+    ensures reads { OnlyReads F.device folder.old folder.new }
     // Over any folder: a report is of the task. A task that is skipped or has no actions is
     // reported as such. A task that has actions and runs is reported with no other outcome than
     // those possible for it.
-    ensures of_task { IsOfTask task.now (F.failures folder.old) (F.failures folder.new) result }
+    ensures of_task { IsOfTask task.now (F.device.failures folder.old) (F.device.failures folder.new) result }
     ensures alone { AnswersAlone task.now.runs (is_empty task.now.actions) has_executed_need result }
     ensures answer { ReportsAnswer options task.now result }
     // And the decision is based on what calls returned.
-    ensures answered { (since : _) → Requests F.failures F.may_leave F.allowed no_change since folder.old
-        → AreSeen F.failures F.may_leave F.allowed since folder.old seen.old
-        → WasSettled F.failures F.may_leave F.allowed since folder.old folder.new options task.now
+    ensures answered { (since : _) → Requests F.device no_change since folder.old
+        → AreSeen F.device since folder.old seen.old
+        → WasSettled F.device since folder.old folder.new options task.now
         (option_copied last.entry) result }
-    ensures remembers { Remembers F.failures F.may_leave F.allowed folder.old folder.new seen.old seen.new
+    ensures remembers { Remembers F.device folder.old folder.new seen.old seen.new
         result }
-    ensures same { F.faithful folder.new → F.contents folder.new ≡ F.contents folder.old }
-    ensures seen_in { F.faithful folder.new → AreSeenIn (F.contents folder.old).files seen.old
-        → AreSeenIn (F.contents folder.new).files seen.new }
+    ensures seen_in { F.device.faithful folder.new → AreSeenIn (F.device.contents folder.old).files seen.old
+        → AreSeenIn (F.device.contents folder.new).files seen.new }
     // If there is a report, it is that of the task's execution. Otherwise the result says which
     // case of the definition applies.
-    ensures settled { F.faithful folder.new → AreSeenIn (F.contents folder.old).files seen.old
+    ensures settled { F.device.faithful folder.new → AreSeenIn (F.device.contents folder.old).files seen.old
         → (kinds : Kinds) (registry_of : Registering) (plan : Plan) (moment : Moment)
-        → moment.world.folder ≡ outside (F.contents folder.old)
-        → moment.failures ≡ F.failures folder.old
+        → moment.world.folder ≡ outside (F.device.contents folder.old)
+        → moment.failures ≡ F.device.failures folder.old
         → some_outcome is_executed moment (needs_in plan task.now) ≡ has_executed_need
         → IsKnown kinds task.now moment.world (option_copied last.entry)
-        → SettlesExecution (setting_with kinds registry_of (F.may_leave folder.old)) options plan task.now
+        → SettlesExecution (setting_with kinds registry_of (F.device.may_leave folder.old)) options plan
+        task.now
         moment
-        (F.contents folder.old) (F.failures folder.new) result }
+        (F.device.contents folder.old) (F.device.failures folder.new) result }
 {
     outside_is_enough();
     prepared_is_case();

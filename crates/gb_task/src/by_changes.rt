@@ -1,5 +1,5 @@
 //! An incremental run of a task, by changes that were decided on what it works on.
-ghost use Rattle.std.specs.Prelude.{◌≡◌, ◌≤◌, [], ℕ, List, false, true, map, IfOk, IfErr, OnOk};
+ghost use Rattle.std.specs.Prelude.{◌≡◌, ◌≤◌, [], List, false, true, map, IfOk, IfErr, OnOk};
 ghost use Rattle.std.specs.List.{AllByRecursion};
 ghost use Rattle.gb_action.specs.Files.{Trees};
 ghost use Rattle.gb_folder.specs.Calls.{Requests, Call, changes_at};
@@ -69,22 +69,24 @@ pub(crate) fn run_by_decided_changes<A: Actions, F: Folder>(
     ensures ran { (calls : List Call) × Leads F.device folder.old calls folder.new
         × RunByChanges A.meanings table.now task.now inputs.trees changes outputs.observed calls lines.new
         result }
-    ensures back { F.faithful folder.new → F.faithful folder.old }
-    ensures count { F.failures folder.old ≤ F.failures folder.new }
-    ensures blame { Blames result (F.failures folder.old) (F.failures folder.new) }
+    ensures back { F.device.faithful folder.new → F.device.faithful folder.old }
+    ensures count { F.device.failures folder.old ≤ F.device.failures folder.new }
+    ensures blame { Blames result (F.device.failures folder.old) (F.device.failures folder.new) }
     ensures blamed { BlamesOnly (is_output_of task.now) result }
-    ensures changes { F.faithful folder.new
-        → ChangesOnly (is_of_execution task.now) (F.contents folder.old) (F.contents folder.new) }
+    ensures changes { F.device.faithful folder.new
+        → ChangesOnly (is_of_execution task.now) (F.device.contents folder.old) (F.device.contents folder.new) }
     // Where the incremental run by these changes is due, this is the task's execution.
-    ensures execution { F.faithful folder.new → (kinds : Kinds) (registry_of : Registering) (options : Options)
-        (plan : Plan) (moment : Moment) → IsAssumed A.meanings table.now kinds (F.may_leave folder.old)
-        → BeginsAt task.now true (F.contents folder.old) (F.failures folder.old) moment
-        → inputs.trees ≡ trees_of task.now (F.contents folder.old).files
-        → outputs.observed ≡ map (observed_of (F.contents folder.old).files) task.now.outputs
+    ensures execution { F.device.faithful folder.new → (kinds : Kinds) (registry_of : Registering)
+        (options : Options)
+        (plan : Plan) (moment : Moment) → IsAssumed A.meanings table.now kinds (F.device.may_leave folder.old)
+        → BeginsAt task.now true (F.device.contents folder.old) (F.device.failures folder.old) moment
+        → inputs.trees ≡ trees_of task.now (F.device.contents folder.old).files
+        → outputs.observed ≡ map (observed_of (F.device.contents folder.old).files) task.now.outputs
         → IsDueByChanges kinds options task.now moment.world changes
-        → HasExecuted (setting_with kinds registry_of (F.may_leave folder.old)) options plan task.now moment
+        → HasExecuted (setting_with kinds registry_of (F.device.may_leave folder.old)) options plan task.now
+        moment
         (report_of task.now result lines.new)
-        (F.contents folder.old) (F.failures folder.new) (F.contents folder.new) }
+        (F.device.contents folder.old) (F.device.failures folder.new) (F.device.contents folder.new) }
 {
     // For the proof alone: `as_str` states that this is a task's path, which the contract about
     // records needs.
@@ -115,11 +117,10 @@ fn make_by_changes<A: Actions, F: Folder>(
         ≡ given_outputs task.now.outputs }
     requires existed { outputs.prints.items ≡ prints_observed outputs.observed }
     requires no_lines { lines.old ≡ [] }
-    ensures requests { Requests F.failures F.may_leave F.allowed (changes_at (is_output_of task.now))
+    ensures requests { Requests F.device (changes_at (is_output_of task.now))
         folder.old
         folder.new }
-    ensures back { F.faithful folder.new → F.faithful folder.old }
-    ensures blame { Blames result (F.failures folder.old) (F.failures folder.new) }
+    ensures blame { Blames result (F.device.failures folder.old) (F.device.failures folder.new) }
     ensures blamed { BlamesOnly (is_output_of task.now) result }
     // Over any folder: by these calls, with just the bytes and the lines of the actions.
     ensures calls { (calls : List Call) × (ran : Ending) × Leads F.device folder.old calls folder.new
@@ -131,22 +132,24 @@ fn make_by_changes<A: Actions, F: Folder>(
     // run.
     ensures made { IfOk result
         (IsOfRunByChanges A.meanings table.now task.now inputs.trees changes outputs.observed) }
-    ensures changes { F.faithful folder.new
-        → ChangesOnly (is_output_of task.now) (F.contents folder.old) (F.contents folder.new) }
-    ensures ok { F.faithful folder.new → OnOk result ((kinds : Kinds) → Agrees A.meanings table.now kinds
+    ensures changes { F.device.faithful folder.new
+        → ChangesOnly (is_output_of task.now) (F.device.contents folder.old) (F.device.contents folder.new) }
+    ensures ok { F.device.faithful folder.new → OnOk result ((kinds : Kinds)
+        → Agrees A.meanings table.now kinds
         → (old : Trees)
-        → GoesOn kinds task.now old inputs.trees changes outputs.observed (F.contents folder.old).files
+        → GoesOn kinds task.now old inputs.trees changes outputs.observed (F.device.contents folder.old).files
         → EndsWell (run_input kinds task.now inputs.trees changes
-        (rest_of task.now (F.contents folder.old).files))
-        lines.new (F.contents folder.new).files) }
-    ensures err { F.faithful folder.new → IfErr result
+        (rest_of task.now (F.device.contents folder.old).files))
+        lines.new (F.device.contents folder.new).files) }
+    ensures err { F.device.faithful folder.new → IfErr result
         (λ fault. (kinds : Kinds) → Agrees A.meanings table.now kinds
         → (old : Trees)
-        → GoesOn kinds task.now old inputs.trees changes outputs.observed (F.contents folder.old).files
+        → GoesOn kinds task.now old inputs.trees changes outputs.observed (F.device.contents folder.old).files
         → Fails (run_input kinds task.now inputs.trees changes
-        (rest_of task.now (F.contents folder.old).files))
-        (ByChanges (F.contents folder.old).files) (F.may_leave folder.old) (F.failures folder.old) fault
-        lines.new (F.failures folder.new) (F.contents folder.new).files) }
+        (rest_of task.now (F.device.contents folder.old).files))
+        (ByChanges (F.device.contents folder.old).files) (F.device.may_leave folder.old)
+        (F.device.failures folder.old) fault
+        lines.new (F.device.failures folder.new) (F.device.contents folder.new).files) }
 {
     let Inputs { trees, prints } = inputs;
     let Outputs {

@@ -7,7 +7,7 @@
 //! read now, and its execution goes by that alone.
 ghost use Rattle.std.specs.Prelude.{◌≡◌, ◌||◌, true, false, IsTrue, Ok, option_copied};
 ghost use Rattle.std.specs.Prelude.{IfOk, IfSome, IfErr, OnErr};
-ghost use Rattle.gb_folder.specs.Calls.{Requests, no_change};
+ghost use Rattle.gb_folder.specs.Calls.{OnlyReads, Requests, no_change};
 ghost use Rattle.gb_folder.specs.Files.{is_empty};
 ghost use Rattle.gb_label.specs.Deciding.{HasNamesInOrder};
 ghost use Rattle.gb_label.specs.Looking.{IsHindered};
@@ -43,32 +43,31 @@ pub(crate) fn prepare_by_seen<F: Folder>(
     seen: &mut Seen,
 ) -> Result<Prepared, Fault>
     requires in_order { HasNamesInOrder task.now }
-    ensures requests { Requests F.failures F.may_leave F.allowed no_change folder.old folder.new }
-    ensures back { F.faithful folder.new → F.faithful folder.old }
-    ensures blame { Blames result (F.failures folder.old) (F.failures folder.new) }
+    ensures reads { OnlyReads F.device folder.old folder.new }
+    ensures blame { Blames result (F.device.failures folder.old) (F.device.failures folder.new) }
     ensures blamed { BlamesOnly (λ place. is_input_of task.now place || is_output_of task.now place) result }
     ensures may_be { IfOk result (MayPrepare task.now) }
     ensures may_decide { IfOk result (MayDecideAs options task.now) }
-    ensures reads { OnErr result ((task.now.runs ≡ true) × (is_empty task.now.actions ≡ false)) }
+    ensures reading { OnErr result ((task.now.runs ≡ true) × (is_empty task.now.actions ≡ false)) }
     ensures read { IfOk result (IsRead task.now) }
     // Over any folder: only what is up to date was found so on what calls returned before.
-    ensures answered { (since : _) → Requests F.failures F.may_leave F.allowed no_change since folder.old
-        → AreSeen F.failures F.may_leave F.allowed since folder.old seen.old
-        → IfOk result (WasPreparedSince F.failures F.may_leave F.allowed since folder.old folder.new options
+    ensures answered { (since : _) → Requests F.device no_change since folder.old
+        → AreSeen F.device since folder.old seen.old
+        → IfOk result (WasPreparedSince F.device since folder.old folder.new options
         task.now (option_copied last.entry)) }
     // What is remembered was read since the last change.
-    ensures seen { (since : _) → Requests F.failures F.may_leave F.allowed no_change since folder.old
-        → AreSeen F.failures F.may_leave F.allowed since folder.old seen.old
-        → AreSeen F.failures F.may_leave F.allowed since folder.new seen.new }
-    ensures same { F.faithful folder.new → F.contents folder.new ≡ F.contents folder.old }
-    ensures prepared { F.faithful folder.new → AreSeenIn (F.contents folder.old).files seen.old
-        → IfOk result (IsPrepared options task.now (F.contents folder.old) (option_copied last.entry)) }
-    ensures observed { F.faithful folder.new → AreSeenIn (F.contents folder.old).files seen.old
-        → IfOk result (IsObserved task.now (F.contents folder.old).files) }
-    ensures seen_in { F.faithful folder.new → AreSeenIn (F.contents folder.old).files seen.old
-        → AreSeenIn (F.contents folder.old).files seen.new }
-    ensures err { F.faithful folder.new → IfErr result
-        (IsHindered task.now (F.contents folder.old) (F.failures folder.old) (F.failures folder.new)) }
+    ensures seen { (since : _) → Requests F.device no_change since folder.old
+        → AreSeen F.device since folder.old seen.old
+        → AreSeen F.device since folder.new seen.new }
+    ensures prepared { F.device.faithful folder.new → AreSeenIn (F.device.contents folder.old).files seen.old
+        → IfOk result (IsPrepared options task.now (F.device.contents folder.old) (option_copied last.entry)) }
+    ensures observed { F.device.faithful folder.new → AreSeenIn (F.device.contents folder.old).files seen.old
+        → IfOk result (IsObserved task.now (F.device.contents folder.old).files) }
+    ensures seen_in { F.device.faithful folder.new → AreSeenIn (F.device.contents folder.old).files seen.old
+        → AreSeenIn (F.device.contents folder.old).files seen.new }
+    ensures err { F.device.faithful folder.new → IfErr result
+        (IsHindered task.now (F.device.contents folder.old) (F.device.failures folder.old)
+        (F.device.failures folder.new)) }
 {
     read_ahead(alloc, folder, next, seen);
     if let Some(current) = current_by_seen(alloc, folder, task, options, last, seen) {
@@ -89,20 +88,19 @@ fn current_by_seen<F: Folder>(
     seen: &Seen,
 ) -> Option<Prepared>
     requires in_order { HasNamesInOrder task.now }
-    ensures requests { Requests F.failures F.may_leave F.allowed no_change folder.old folder.new }
-    ensures back { F.faithful folder.new → F.faithful folder.old }
+    ensures reads { OnlyReads F.device folder.old folder.new }
     ensures may_be { IfSome result (MayPrepare task.now) }
     ensures may_decide { IfSome result (MayDecideAs options task.now) }
     ensures read { IfSome result (IsRead task.now) }
-    ensures answered { (since : _) → Requests F.failures F.may_leave F.allowed no_change since folder.old
-        → AreSeen F.failures F.may_leave F.allowed since folder.old seen.now
-        → IfSome result (WasPreparedSince F.failures F.may_leave F.allowed since folder.old folder.new options
+    ensures answered { (since : _) → Requests F.device no_change since folder.old
+        → AreSeen F.device since folder.old seen.now
+        → IfSome result (WasPreparedSince F.device since folder.old folder.new options
         task.now (option_copied last.entry)) }
-    ensures same { F.faithful folder.new → F.contents folder.new ≡ F.contents folder.old }
-    ensures prepared { F.faithful folder.new → AreSeenIn (F.contents folder.old).files seen.now
-        → IfSome result (IsPrepared options task.now (F.contents folder.old) (option_copied last.entry)) }
-    ensures observed { F.faithful folder.new → AreSeenIn (F.contents folder.old).files seen.now
-        → IfSome result (IsObserved task.now (F.contents folder.old).files) }
+    ensures prepared { F.device.faithful folder.new → AreSeenIn (F.device.contents folder.old).files seen.now
+        → IfSome result (IsPrepared options task.now (F.device.contents folder.old)
+        (option_copied last.entry)) }
+    ensures observed { F.device.faithful folder.new → AreSeenIn (F.device.contents folder.old).files seen.now
+        → IfSome result (IsObserved task.now (F.device.contents folder.old).files) }
 {
     if last.is_none() || options.rerun || !was_seen(task, seen) {
         return None;

@@ -59,33 +59,34 @@ pub fn execute_by_changes<A: Actions, F: Folder>(
     requires source { lacks_source task.now.files observed.inputs.items ≡ false }
     requires outputs { AreOutputs task.now observed.outputs.items }
     ensures path { result.path ≡ task.now.path }
-    ensures back { F.faithful folder.new → F.faithful folder.old }
+    ensures back { F.device.faithful folder.new → F.device.faithful folder.old }
     ensures has_actions { result.has_actions ≡ not (is_empty task.now.actions) }
     ensures outcome { IsReportedOf outcome_of result.outcome }
     // Over any folder: where calls returned its inputs and outputs since a state of the folder, without
     // a change, it only read and failed, or it ran on just these, in full or by the changes.
-    ensures ran { (first : _) → Requests F.failures F.may_leave F.allowed no_change first folder.old
-        → AreInputsAnswered F.failures F.may_leave F.allowed first folder.old task.now observed.inputs.items
-        → AreOutputsAnswered F.failures F.may_leave F.allowed first folder.old task.now observed.outputs.items
-        → EndsAs (λ ended. OnlyRead F.failures F.may_leave F.allowed result.lines ended first folder.new
-        ⊎ RanFrom F.failures F.may_leave F.allowed A.meanings table.now task.now options last.now result.lines
+    ensures ran { (first : _) → Requests F.device no_change first folder.old
+        → AreInputsAnswered F.device first folder.old task.now observed.inputs.items
+        → AreOutputsAnswered F.device first folder.old task.now observed.outputs.items
+        → EndsAs (λ ended. OnlyRead F.device result.lines ended first folder.new
+        ⊎ RanFrom F.device A.meanings table.now task.now options last.now result.lines
         ended first folder.new) result.outcome }
-    ensures count { F.failures folder.old ≤ F.failures folder.new }
+    ensures count { F.device.failures folder.old ≤ F.device.failures folder.new }
     ensures blame { (place : List ℕ) → result.outcome ≡ Failed (Fault.Device place)
-        → HasRisen (F.failures folder.old) (F.failures folder.new) }
+        → HasRisen (F.device.failures folder.old) (F.device.failures folder.new) }
     ensures blamed { (place : List ℕ) → result.outcome ≡ Failed (Fault.Device place)
         → IsTrue (is_input_of task.now place || is_output_of task.now place) }
-    ensures changes { F.faithful folder.new
-        → ChangesOnly (is_of_execution task.now) (F.contents folder.old) (F.contents folder.new) }
+    ensures changes { F.device.faithful folder.new
+        → ChangesOnly (is_of_execution task.now) (F.device.contents folder.old) (F.device.contents folder.new) }
     // Where the task runs incrementally, based on its record, this is its execution.
-    ensures execution { F.faithful folder.new → (kinds : Kinds) (registry_of : Registering)
-        (plan : Plan) (moment : Moment) → IsAssumed A.meanings table.now kinds (F.may_leave folder.old)
-        → BeginsAt task.now true (F.contents folder.old) (F.failures folder.old) moment
-        → AreInputsObserved task.now (F.contents folder.old).files observed.inputs.items
-        → AreOutputsObserved task.now (F.contents folder.old).files observed.outputs.items
+    ensures execution { F.device.faithful folder.new → (kinds : Kinds) (registry_of : Registering)
+        (plan : Plan) (moment : Moment) → IsAssumed A.meanings table.now kinds (F.device.may_leave folder.old)
+        → BeginsAt task.now true (F.device.contents folder.old) (F.device.failures folder.old) moment
+        → AreInputsObserved task.now (F.device.contents folder.old).files observed.inputs.items
+        → AreOutputsObserved task.now (F.device.contents folder.old).files observed.outputs.items
         → IsToGoOn kinds options task.now moment.world last.now
-        → HasExecuted (setting_with kinds registry_of (F.may_leave folder.old)) options plan task.now moment
-        result (F.contents folder.old) (F.failures folder.new) (F.contents folder.new) }
+        → HasExecuted (setting_with kinds registry_of (F.device.may_leave folder.old)) options plan task.now
+        moment
+        result (F.device.contents folder.old) (F.device.failures folder.new) (F.device.contents folder.new) }
 {
     let has_actions = !task.actions.is_empty();
     let mut lines = Texts::new(alloc);
@@ -121,27 +122,28 @@ fn go_on<A: Actions, F: Folder>(
     requires no_lines { lines.old ≡ [] }
     // Over any folder: where calls returned its inputs and outputs since a state of the folder, without
     // a change, it only read and failed, or it ran on just these, in full or by the changes.
-    ensures ran { (first : _) → Requests F.failures F.may_leave F.allowed no_change first folder.old
-        → AreInputsAnswered F.failures F.may_leave F.allowed first folder.old task.now observed.inputs.items
-        → AreOutputsAnswered F.failures F.may_leave F.allowed first folder.old task.now observed.outputs.items
-        → OnlyRead F.failures F.may_leave F.allowed lines.new result first folder.new
-        ⊎ RanFrom F.failures F.may_leave F.allowed A.meanings table.now task.now options last.now lines.new
+    ensures ran { (first : _) → Requests F.device no_change first folder.old
+        → AreInputsAnswered F.device first folder.old task.now observed.inputs.items
+        → AreOutputsAnswered F.device first folder.old task.now observed.outputs.items
+        → OnlyRead F.device lines.new result first folder.new
+        ⊎ RanFrom F.device A.meanings table.now task.now options last.now lines.new
         result first folder.new }
-    ensures back { F.faithful folder.new → F.faithful folder.old }
-    ensures count { F.failures folder.old ≤ F.failures folder.new }
-    ensures blame { Blames result (F.failures folder.old) (F.failures folder.new) }
+    ensures back { F.device.faithful folder.new → F.device.faithful folder.old }
+    ensures count { F.device.failures folder.old ≤ F.device.failures folder.new }
+    ensures blame { Blames result (F.device.failures folder.old) (F.device.failures folder.new) }
     ensures blamed { BlamesOnly (λ place. is_input_of task.now place || is_output_of task.now place) result }
-    ensures changes { F.faithful folder.new
-        → ChangesOnly (is_of_execution task.now) (F.contents folder.old) (F.contents folder.new) }
-    ensures execution { F.faithful folder.new → (kinds : Kinds) (registry_of : Registering)
-        (plan : Plan) (moment : Moment) → IsAssumed A.meanings table.now kinds (F.may_leave folder.old)
-        → BeginsAt task.now true (F.contents folder.old) (F.failures folder.old) moment
-        → AreInputsObserved task.now (F.contents folder.old).files observed.inputs.items
-        → AreOutputsObserved task.now (F.contents folder.old).files observed.outputs.items
+    ensures changes { F.device.faithful folder.new
+        → ChangesOnly (is_of_execution task.now) (F.device.contents folder.old) (F.device.contents folder.new) }
+    ensures execution { F.device.faithful folder.new → (kinds : Kinds) (registry_of : Registering)
+        (plan : Plan) (moment : Moment) → IsAssumed A.meanings table.now kinds (F.device.may_leave folder.old)
+        → BeginsAt task.now true (F.device.contents folder.old) (F.device.failures folder.old) moment
+        → AreInputsObserved task.now (F.device.contents folder.old).files observed.inputs.items
+        → AreOutputsObserved task.now (F.device.contents folder.old).files observed.outputs.items
         → IsToGoOn kinds options task.now moment.world last.now
-        → HasExecuted (setting_with kinds registry_of (F.may_leave folder.old)) options plan task.now moment
+        → HasExecuted (setting_with kinds registry_of (F.device.may_leave folder.old)) options plan task.now
+        moment
         (report_of task.now result lines.new)
-        (F.contents folder.old) (F.failures folder.new) (F.contents folder.new) }
+        (F.device.contents folder.old) (F.device.failures folder.new) (F.device.contents folder.new) }
 {
     match recheck_task(alloc, folder, task, options, last, observed)? {
         Recheck::ByChanges(inputs, outputs, changes) => {

@@ -34,19 +34,19 @@ pub fn clear<F: Folder>(
     // Over any folder: by these calls.
     ensures calls { (calls : List Call) × Leads F.device folder.old calls folder.new
         × Clears task.now was_read calls [] result }
-    ensures back { F.faithful folder.new → F.faithful folder.old }
-    ensures requests { Requests F.failures F.may_leave F.allowed (takes_at (is_of_execution task.now))
+    ensures requests { Requests F.device (takes_at (is_of_execution task.now))
         folder.old
         folder.new }
-    ensures blame { Blames result (F.failures folder.old) (F.failures folder.new) }
+    ensures blame { Blames result (F.device.failures folder.old) (F.device.failures folder.new) }
     ensures blamed { BlamesOnly (is_output_of task.now) result }
-    ensures changes { F.faithful folder.new
-        → ChangesOnly (is_of_execution task.now) (F.contents folder.old) (F.contents folder.new) }
-    ensures cleared { F.faithful folder.new → TornWritesAreDetected IsText record_place (F.may_leave folder.old)
-        → (memory : Memory) → HoldsRecords (F.contents folder.old).files memory
+    ensures changes { F.device.faithful folder.new
+        → ChangesOnly (is_of_execution task.now) (F.device.contents folder.old) (F.device.contents folder.new) }
+    ensures cleared { F.device.faithful folder.new → TornWritesAreDetected IsText record_place
+        (F.device.may_leave folder.old)
+        → (memory : Memory) → HoldsRecords (F.device.contents folder.old).files memory
         → (was_read ≡ false → recalled memory task.now.path ≡ None)
-        → HasCleared task.now was_read memory (F.may_leave folder.old) (F.failures folder.old)
-        (F.contents folder.old) result (F.failures folder.new) (F.contents folder.new) }
+        → HasCleared task.now was_read memory (F.device.may_leave folder.old) (F.device.failures folder.old)
+        (F.device.contents folder.old) result (F.device.failures folder.new) (F.device.contents folder.new) }
 {
     forget(alloc, folder, &task.path, was_read)?;
     empty_outputs(alloc, folder, task)

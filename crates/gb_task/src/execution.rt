@@ -73,22 +73,22 @@ pub fn execute_task<A: Actions, F: Folder>(
     requires outputs_separate { some_overlap (output_places task.now) ≡ false }
     requires path { path ≡ task.now.path }
     ensures path { result.path ≡ task.now.path }
-    ensures back { F.faithful folder.new → F.faithful folder.old }
+    ensures back { F.device.faithful folder.new → F.device.faithful folder.old }
     ensures has_actions { result.has_actions ≡ not (is_empty task.now.actions) }
     // Over any folder: which calls were made, stage by stage, up to the first that failed; with which
     // bytes; and what they were based on. A task that is skipped or up to date requests no change, and
     // it is up to date only if it was found so on what calls returned since the last change.
-    ensures requests { (since : _) → Requests F.failures F.may_leave F.allowed no_change since folder.old
-        → AreSeen F.failures F.may_leave F.allowed since folder.old seen.old
-        → ExecutionRequests F.failures F.may_leave F.allowed A.meanings table.now options task.now
+    ensures requests { (since : _) → Requests F.device no_change since folder.old
+        → AreSeen F.device since folder.old seen.old
+        → ExecutionRequests F.device A.meanings table.now options task.now
         (option_copied last.entry) result.outcome result.lines since folder.old folder.new }
     // What is remembered was read since the last change.
-    ensures seen { (since : _) → Requests F.failures F.may_leave F.allowed no_change since folder.old
-        → AreSeen F.failures F.may_leave F.allowed since folder.old seen.old
-        → AreSeen F.failures F.may_leave F.allowed (since_after result.outcome since folder.new) folder.new
+    ensures seen { (since : _) → Requests F.device no_change since folder.old
+        → AreSeen F.device since folder.old seen.old
+        → AreSeen F.device (since_after result.outcome since folder.new) folder.new
         seen.new }
     ensures blame { (place : List ℕ) → result.outcome ≡ Failed (Fault.Device place)
-        → HasRisen (F.failures folder.old) (F.failures folder.new) }
+        → HasRisen (F.device.failures folder.old) (F.device.failures folder.new) }
     ensures blamed { (place : List ℕ) → result.outcome ≡ Failed (Fault.Device place)
         → IsTrue (is_input_of task.now place || is_output_of task.now place) }
     ensures started { IsTrue (is_started result.outcome) }
@@ -98,22 +98,23 @@ pub fn execute_task<A: Actions, F: Folder>(
     ensures alone { IsAnsweredAlone task.now.runs (is_empty task.now.actions) has_executed_need
         result.outcome }
     ensures answer { IsAnswer options task.now result }
-    ensures changes { F.faithful folder.new
-        → ChangesOnly (is_of_execution task.now) (F.contents folder.old) (F.contents folder.new) }
-    ensures seen_in { F.faithful folder.new → AreSeenIn (F.contents folder.old).files seen.old
-        → AreSeenIn (F.contents folder.new).files seen.new }
+    ensures changes { F.device.faithful folder.new
+        → ChangesOnly (is_of_execution task.now) (F.device.contents folder.old) (F.device.contents folder.new) }
+    ensures seen_in { F.device.faithful folder.new → AreSeenIn (F.device.contents folder.old).files seen.old
+        → AreSeenIn (F.device.contents folder.new).files seen.new }
     // Where contents are known and kinds agree: if what was read is the record of what is
     // remembered, or none where nothing is, and that is true and collision-free with what the task
     // has now (`IsKnown`), this is its execution by the definitions.
-    ensures execution { F.faithful folder.new → AreSeenIn (F.contents folder.old).files seen.old
+    ensures execution { F.device.faithful folder.new → AreSeenIn (F.device.contents folder.old).files seen.old
         → (kinds : Kinds) (registry_of : Registering) (plan : Plan) (moment : Moment)
-        → IsAssumed A.meanings table.now kinds (F.may_leave folder.old)
-        → BeginsAt task.now (is_some (option_copied last.entry)) (F.contents folder.old)
-        (F.failures folder.old) moment
+        → IsAssumed A.meanings table.now kinds (F.device.may_leave folder.old)
+        → BeginsAt task.now (is_some (option_copied last.entry)) (F.device.contents folder.old)
+        (F.device.failures folder.old) moment
         → some_outcome is_executed moment (needs_in plan task.now) ≡ has_executed_need
         → IsKnown kinds task.now moment.world (option_copied last.entry)
-        → HasExecuted (setting_with kinds registry_of (F.may_leave folder.old)) options plan task.now moment
-        result (F.contents folder.old) (F.failures folder.new) (F.contents folder.new) }
+        → HasExecuted (setting_with kinds registry_of (F.device.may_leave folder.old)) options plan task.now
+        moment
+        result (F.device.contents folder.old) (F.device.failures folder.new) (F.device.contents folder.new) }
 {
     match settle(
         alloc,
@@ -156,36 +157,37 @@ fn run<A: Actions, F: Folder>(
     requires read { IsReadFor task.now observed decision }
     requires source { lacks_source task.now.files observed.inputs.items ≡ false }
     ensures path { result.path ≡ task.now.path }
-    ensures back { F.faithful folder.new → F.faithful folder.old }
+    ensures back { F.device.faithful folder.new → F.device.faithful folder.old }
     ensures has_actions { result.has_actions ≡ not (is_empty task.now.actions) }
     ensures outcome { IsReportedOf outcome_of result.outcome }
     // Over any folder: where calls returned what it was decided on since a state of the folder, without
     // a change, it only read and failed, or it ran on just that.
-    ensures ran { (first : _) → Requests F.failures F.may_leave F.allowed no_change first folder.old
-        → AreInputsAnswered F.failures F.may_leave F.allowed first folder.old task.now observed.inputs.items
-        → WasDecided F.failures F.may_leave F.allowed first folder.old options task.now
+    ensures ran { (first : _) → Requests F.device no_change first folder.old
+        → AreInputsAnswered F.device first folder.old task.now observed.inputs.items
+        → WasDecided F.device first folder.old options task.now
         (option_copied last.entry) observed.inputs.items decision observed.outputs.items
-        → EndsAs (λ ended. OnlyRead F.failures F.may_leave F.allowed result.lines ended first folder.new
-        ⊎ WasRun F.failures F.may_leave F.allowed A.meanings table.now task.now options
+        → EndsAs (λ ended. OnlyRead F.device result.lines ended first folder.new
+        ⊎ WasRun F.device A.meanings table.now task.now options
         (option_copied last.entry) result.lines ended first folder.new) result.outcome }
-    ensures count { F.failures folder.old ≤ F.failures folder.new }
+    ensures count { F.device.failures folder.old ≤ F.device.failures folder.new }
     ensures blame { (place : List ℕ) → result.outcome ≡ Failed (Fault.Device place)
-        → HasRisen (F.failures folder.old) (F.failures folder.new) }
+        → HasRisen (F.device.failures folder.old) (F.device.failures folder.new) }
     ensures blamed { (place : List ℕ) → result.outcome ≡ Failed (Fault.Device place)
         → IsTrue (is_input_of task.now place || is_output_of task.now place) }
-    ensures changes { F.faithful folder.new
-        → ChangesOnly (is_of_execution task.now) (F.contents folder.old) (F.contents folder.new) }
-    ensures execution { F.faithful folder.new → (kinds : Kinds) (registry_of : Registering)
-        (plan : Plan) (moment : Moment) → IsAssumed A.meanings table.now kinds (F.may_leave folder.old)
-        → BeginsAt task.now (is_some (option_copied last.entry)) (F.contents folder.old)
-        (F.failures folder.old) moment
+    ensures changes { F.device.faithful folder.new
+        → ChangesOnly (is_of_execution task.now) (F.device.contents folder.old) (F.device.contents folder.new) }
+    ensures execution { F.device.faithful folder.new → (kinds : Kinds) (registry_of : Registering)
+        (plan : Plan) (moment : Moment) → IsAssumed A.meanings table.now kinds (F.device.may_leave folder.old)
+        → BeginsAt task.now (is_some (option_copied last.entry)) (F.device.contents folder.old)
+        (F.device.failures folder.old) moment
         → early_case task.now moment.world.folder ≡ None
         → IsCaseFor kinds options task.now moment.world decision
         → IsRunFor kinds options task.now moment.world decision
-        → IsObservedFor task.now (F.contents folder.old).files observed decision
+        → IsObservedFor task.now (F.device.contents folder.old).files observed decision
         → IsKnown kinds task.now moment.world (option_copied last.entry)
-        → HasExecuted (setting_with kinds registry_of (F.may_leave folder.old)) options plan task.now moment
-        result (F.contents folder.old) (F.failures folder.new) (F.contents folder.new) }
+        → HasExecuted (setting_with kinds registry_of (F.device.may_leave folder.old)) options plan task.now
+        moment
+        result (F.device.contents folder.old) (F.device.failures folder.new) (F.device.contents folder.new) }
 {
     if let Some(record) = last {
         if is_by_changes::<A>(table, task, &decision) {

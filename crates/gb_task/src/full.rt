@@ -70,31 +70,33 @@ pub fn execute_in_full<A: Actions, F: Folder>(
     requires inputs { AreInputs task.now inputs.items }
     requires source { lacks_source task.now.files inputs.items ≡ false }
     ensures path { result.path ≡ task.now.path }
-    ensures back { F.faithful folder.new → F.faithful folder.old }
+    ensures back { F.device.faithful folder.new → F.device.faithful folder.old }
     ensures has_actions { result.has_actions ≡ not (is_empty task.now.actions) }
     ensures outcome { IsReportedOf outcome_of result.outcome }
     // Over any folder: where calls returned its inputs since a state of the folder, without a change,
     // it only read and failed, or it ran on just these, in full.
-    ensures ran { (first : _) → Requests F.failures F.may_leave F.allowed no_change first folder.old
-        → AreInputsAnswered F.failures F.may_leave F.allowed first folder.old task.now inputs.items
-        → EndsAs (λ ended. OnlyRead F.failures F.may_leave F.allowed result.lines ended first folder.new
-        ⊎ RanInFull F.failures F.may_leave F.allowed A.meanings table.now task.now was_read result.lines ended
+    ensures ran { (first : _) → Requests F.device no_change first folder.old
+        → AreInputsAnswered F.device first folder.old task.now inputs.items
+        → EndsAs (λ ended. OnlyRead F.device result.lines ended first folder.new
+        ⊎ RanInFull F.device A.meanings table.now task.now was_read result.lines ended
         first folder.new) result.outcome }
-    ensures count { F.failures folder.old ≤ F.failures folder.new }
+    ensures count { F.device.failures folder.old ≤ F.device.failures folder.new }
     ensures blame { (place : List ℕ) → result.outcome ≡ Failed (Fault.Device place)
-        → HasRisen (F.failures folder.old) (F.failures folder.new) }
+        → HasRisen (F.device.failures folder.old) (F.device.failures folder.new) }
     ensures blamed { (place : List ℕ) → result.outcome ≡ Failed (Fault.Device place)
         → IsTrue (is_input_of task.now place || is_output_of task.now place) }
-    ensures changes { F.faithful folder.new
-        → ChangesOnly (is_of_execution task.now) (F.contents folder.old) (F.contents folder.new) }
+    ensures changes { F.device.faithful folder.new
+        → ChangesOnly (is_of_execution task.now) (F.device.contents folder.old) (F.device.contents folder.new) }
     // Where the full run is due, this is the task's execution.
-    ensures execution { F.faithful folder.new → (kinds : Kinds) (registry_of : Registering) (options : Options)
-        (plan : Plan) (moment : Moment) → IsAssumed A.meanings table.now kinds (F.may_leave folder.old)
-        → BeginsAt task.now was_read (F.contents folder.old) (F.failures folder.old) moment
-        → AreInputsObserved task.now (F.contents folder.old).files inputs.items
+    ensures execution { F.device.faithful folder.new → (kinds : Kinds) (registry_of : Registering)
+        (options : Options)
+        (plan : Plan) (moment : Moment) → IsAssumed A.meanings table.now kinds (F.device.may_leave folder.old)
+        → BeginsAt task.now was_read (F.device.contents folder.old) (F.device.failures folder.old) moment
+        → AreInputsObserved task.now (F.device.contents folder.old).files inputs.items
         → IsDue kinds options task.now moment.world
-        → HasExecuted (setting_with kinds registry_of (F.may_leave folder.old)) options plan task.now moment
-        result (F.contents folder.old) (F.failures folder.new) (F.contents folder.new) }
+        → HasExecuted (setting_with kinds registry_of (F.device.may_leave folder.old)) options plan task.now
+        moment
+        result (F.device.contents folder.old) (F.device.failures folder.new) (F.device.contents folder.new) }
 {
     let has_actions = !task.actions.is_empty();
     let mut lines = Texts::new(alloc);
@@ -134,25 +136,27 @@ fn run_with_record<A: Actions, F: Folder>(
     requires no_lines { lines.old ≡ [] }
     // Over any folder: where calls returned its inputs since a state of the folder, without a change,
     // it only read and failed, or it ran on just these, in full.
-    ensures ran { (first : _) → Requests F.failures F.may_leave F.allowed no_change first folder.old
-        → AreInputsAnswered F.failures F.may_leave F.allowed first folder.old task.now inputs.items
-        → OnlyRead F.failures F.may_leave F.allowed lines.new result first folder.new
-        ⊎ RanInFull F.failures F.may_leave F.allowed A.meanings table.now task.now was_read lines.new result
+    ensures ran { (first : _) → Requests F.device no_change first folder.old
+        → AreInputsAnswered F.device first folder.old task.now inputs.items
+        → OnlyRead F.device lines.new result first folder.new
+        ⊎ RanInFull F.device A.meanings table.now task.now was_read lines.new result
         first folder.new }
-    ensures back { F.faithful folder.new → F.faithful folder.old }
-    ensures count { F.failures folder.old ≤ F.failures folder.new }
-    ensures blame { Blames result (F.failures folder.old) (F.failures folder.new) }
+    ensures back { F.device.faithful folder.new → F.device.faithful folder.old }
+    ensures count { F.device.failures folder.old ≤ F.device.failures folder.new }
+    ensures blame { Blames result (F.device.failures folder.old) (F.device.failures folder.new) }
     ensures blamed { BlamesOnly (λ place. is_input_of task.now place || is_output_of task.now place) result }
-    ensures changes { F.faithful folder.new
-        → ChangesOnly (is_of_execution task.now) (F.contents folder.old) (F.contents folder.new) }
-    ensures execution { F.faithful folder.new → (kinds : Kinds) (registry_of : Registering) (options : Options)
-        (plan : Plan) (moment : Moment) → IsAssumed A.meanings table.now kinds (F.may_leave folder.old)
-        → BeginsAt task.now was_read (F.contents folder.old) (F.failures folder.old) moment
-        → AreInputsObserved task.now (F.contents folder.old).files inputs.items
+    ensures changes { F.device.faithful folder.new
+        → ChangesOnly (is_of_execution task.now) (F.device.contents folder.old) (F.device.contents folder.new) }
+    ensures execution { F.device.faithful folder.new → (kinds : Kinds) (registry_of : Registering)
+        (options : Options)
+        (plan : Plan) (moment : Moment) → IsAssumed A.meanings table.now kinds (F.device.may_leave folder.old)
+        → BeginsAt task.now was_read (F.device.contents folder.old) (F.device.failures folder.old) moment
+        → AreInputsObserved task.now (F.device.contents folder.old).files inputs.items
         → IsDue kinds options task.now moment.world
-        → HasExecuted (setting_with kinds registry_of (F.may_leave folder.old)) options plan task.now moment
+        → HasExecuted (setting_with kinds registry_of (F.device.may_leave folder.old)) options plan task.now
+        moment
         (report_of task.now result lines.new)
-        (F.contents folder.old) (F.failures folder.new) (F.contents folder.new) }
+        (F.device.contents folder.old) (F.device.failures folder.new) (F.device.contents folder.new) }
 {
     let inputs = complete_inputs(alloc, folder, task, inputs)?;
     run_on::<A, F>(alloc, folder, task, table, inputs, was_read, lines)
@@ -177,20 +181,22 @@ pub(crate) fn run_on<A: Actions, F: Folder>(
     // Over any folder: it is a full run on these inputs, by these calls.
     ensures ran { (calls : List Call) × Leads F.device folder.old calls folder.new
         × FullRun A.meanings table.now task.now inputs.trees was_read calls lines.new result }
-    ensures back { F.faithful folder.new → F.faithful folder.old }
-    ensures count { F.failures folder.old ≤ F.failures folder.new }
-    ensures blame { Blames result (F.failures folder.old) (F.failures folder.new) }
+    ensures back { F.device.faithful folder.new → F.device.faithful folder.old }
+    ensures count { F.device.failures folder.old ≤ F.device.failures folder.new }
+    ensures blame { Blames result (F.device.failures folder.old) (F.device.failures folder.new) }
     ensures blamed { BlamesOnly (is_output_of task.now) result }
-    ensures changes { F.faithful folder.new
-        → ChangesOnly (is_of_execution task.now) (F.contents folder.old) (F.contents folder.new) }
-    ensures execution { F.faithful folder.new → (kinds : Kinds) (registry_of : Registering) (options : Options)
-        (plan : Plan) (moment : Moment) → IsAssumed A.meanings table.now kinds (F.may_leave folder.old)
-        → BeginsAt task.now was_read (F.contents folder.old) (F.failures folder.old) moment
-        → inputs.trees ≡ trees_of task.now (F.contents folder.old).files
+    ensures changes { F.device.faithful folder.new
+        → ChangesOnly (is_of_execution task.now) (F.device.contents folder.old) (F.device.contents folder.new) }
+    ensures execution { F.device.faithful folder.new → (kinds : Kinds) (registry_of : Registering)
+        (options : Options)
+        (plan : Plan) (moment : Moment) → IsAssumed A.meanings table.now kinds (F.device.may_leave folder.old)
+        → BeginsAt task.now was_read (F.device.contents folder.old) (F.device.failures folder.old) moment
+        → inputs.trees ≡ trees_of task.now (F.device.contents folder.old).files
         → IsDue kinds options task.now moment.world
-        → HasExecuted (setting_with kinds registry_of (F.may_leave folder.old)) options plan task.now moment
+        → HasExecuted (setting_with kinds registry_of (F.device.may_leave folder.old)) options plan task.now
+        moment
         (report_of task.now result lines.new)
-        (F.contents folder.old) (F.failures folder.new) (F.contents folder.new) }
+        (F.device.contents folder.old) (F.device.failures folder.new) (F.device.contents folder.new) }
 {
     let Inputs { trees, prints } = inputs;
     let changes = all_added(alloc, task, prints.as_slice())?;
@@ -216,11 +222,10 @@ fn make_in_full<A: Actions, F: Folder>(
     requires named { map (λ tree. tree.0) trees ≡ given_files task.now.files }
     requires digests { prints.items ≡ digests_in trees }
     requires no_lines { lines.old ≡ [] }
-    ensures requests { Requests F.failures F.may_leave F.allowed (changes_at (is_output_of task.now))
+    ensures requests { Requests F.device (changes_at (is_output_of task.now))
         folder.old
         folder.new }
-    ensures back { F.faithful folder.new → F.faithful folder.old }
-    ensures blame { Blames result (F.failures folder.old) (F.failures folder.new) }
+    ensures blame { Blames result (F.device.failures folder.old) (F.device.failures folder.new) }
     ensures blamed { BlamesOnly (is_output_of task.now) result }
     // Over any folder: by these calls, with just the bytes and the lines of the actions.
     ensures calls { (calls : List Call) × (ran : Ending) × Leads F.device folder.old calls folder.new
@@ -228,16 +233,17 @@ fn make_in_full<A: Actions, F: Folder>(
         × HasMade ran (ending result) }
     // Over any folder, whoever else writes in it: the record is true.
     ensures made { IfOk result (IsOfFullRun A.meanings table.now task.now trees) }
-    ensures changes { F.faithful folder.new
-        → ChangesOnly (is_output_of task.now) (F.contents folder.old) (F.contents folder.new) }
-    ensures ok { F.faithful folder.new → OnOk result ((kinds : Kinds) → Agrees A.meanings table.now kinds
-        → EndsWell (run_input kinds task.now trees changes (F.contents folder.old).files)
-        lines.new (F.contents folder.new).files) }
-    ensures err { F.faithful folder.new → IfErr result
+    ensures changes { F.device.faithful folder.new
+        → ChangesOnly (is_output_of task.now) (F.device.contents folder.old) (F.device.contents folder.new) }
+    ensures ok { F.device.faithful folder.new → OnOk result ((kinds : Kinds)
+        → Agrees A.meanings table.now kinds
+        → EndsWell (run_input kinds task.now trees changes (F.device.contents folder.old).files)
+        lines.new (F.device.contents folder.new).files) }
+    ensures err { F.device.faithful folder.new → IfErr result
         (λ fault. (kinds : Kinds) → Agrees A.meanings table.now kinds
-        → Fails (run_input kinds task.now trees changes (F.contents folder.old).files) InFull
-        (F.may_leave folder.old) (F.failures folder.old) fault
-        lines.new (F.failures folder.new) (F.contents folder.new).files) }
+        → Fails (run_input kinds task.now trees changes (F.device.contents folder.old).files) InFull
+        (F.device.may_leave folder.old) (F.device.failures folder.old) fault
+        lines.new (F.device.failures folder.new) (F.device.contents folder.new).files) }
 {
     let made = run_in_full::<A, F>(alloc, folder, task, table, trees, changes, lines)?;
     let outputs = records_of(alloc, task, made)?;

@@ -32,20 +32,21 @@ pub fn forget<F: Folder>(
     // Over any folder: by these calls.
     ensures calls { (calls : List Call) × Leads F.device folder.old calls folder.new
         × DeletesRecord path.now was_read calls result }
-    ensures back { F.faithful folder.new → F.faithful folder.old }
-    ensures requests { Requests F.failures F.may_leave F.allowed (taken_at (record_place path.now)) folder.old
+    ensures requests { Requests F.device (taken_at (record_place path.now)) folder.old
         folder.new }
     ensures blame { (place : List ℕ) → result ≢ Err (Fault.Device place) }
-    ensures changes { F.faithful folder.new
-        → ChangesOnly (is_at (record_place path.now)) (F.contents folder.old) (F.contents folder.new) }
-    ensures err { F.faithful folder.new → IfErr result
-        (IsUnwritten path.now None (F.contents folder.old).files (F.failures folder.old)
-        (F.failures folder.new)) }
+    ensures changes { F.device.faithful folder.new
+        → ChangesOnly (is_at (record_place path.now)) (F.device.contents folder.old)
+        (F.device.contents folder.new) }
+    ensures err { F.device.faithful folder.new → IfErr result
+        (IsUnwritten path.now None (F.device.contents folder.old).files (F.device.failures folder.old)
+        (F.device.failures folder.new)) }
     ensures read { OnErr result (was_read ≡ true) }
-    ensures exists { F.faithful folder.new → TornWritesAreDetected IsText record_place (F.may_leave folder.old)
-        → (memory : Memory) → HoldsRecords (F.contents folder.old).files memory
+    ensures exists { F.device.faithful folder.new → TornWritesAreDetected IsText record_place
+        (F.device.may_leave folder.old)
+        → (memory : Memory) → HoldsRecords (F.device.contents folder.old).files memory
         → (was_read ≡ false → recalled memory path.now ≡ None)
-        → IsForgotten path.now memory result (F.contents folder.new).files }
+        → IsForgotten path.now memory result (F.device.contents folder.new).files }
 {
     // For the proof alone: `as_str` states that this is a task's path, which the contract about
     // records needs.
@@ -66,22 +67,25 @@ pub fn remember<F: Folder>(
     task: &TaskDeclaration,
     run: &Record,
 ) -> Result<(), Fault>
-    ensures requests { Requests F.failures F.may_leave F.allowed (put_at (record_place task.now.path)
+    ensures requests { Requests F.device (put_at (record_place task.now.path)
         (record_text task.now.path run.now)) folder.old folder.new }
-    ensures back { F.faithful folder.new → F.faithful folder.old }
     // Over any folder: by these calls.
     ensures calls { (calls : List Call) × Leads F.device folder.old calls folder.new
         × StoresRecord task.now run.now calls result }
     ensures blame { (place : List ℕ) → result ≢ Err (Fault.Device place) }
-    ensures changes { F.faithful folder.new
-        → ChangesOnly (is_at (record_place task.now.path)) (F.contents folder.old) (F.contents folder.new) }
-    ensures err { F.faithful folder.new → IfErr result
-        (IsUnwritten task.now.path (Some (record_text task.now.path run.now)) (F.contents folder.old).files
-        (F.failures folder.old) (F.failures folder.new)) }
+    ensures changes { F.device.faithful folder.new
+        → ChangesOnly (is_at (record_place task.now.path)) (F.device.contents folder.old)
+        (F.device.contents folder.new) }
+    ensures err { F.device.faithful folder.new → IfErr result
+        (IsUnwritten task.now.path (Some (record_text task.now.path run.now))
+        (F.device.contents folder.old).files
+        (F.device.failures folder.old) (F.device.failures folder.new)) }
     ensures outputs { OnErr result (is_empty task.now.outputs ≡ false) }
-    ensures exists { F.faithful folder.new → TornWritesAreDetected IsText record_place (F.may_leave folder.old)
-        → (memory : Memory) (entry : Entry) → HoldsRecords (F.contents folder.old).files memory
-        → IsSaidOf run.now entry → IsRemembered task.now entry memory result (F.contents folder.new).files }
+    ensures exists { F.device.faithful folder.new → TornWritesAreDetected IsText record_place
+        (F.device.may_leave folder.old)
+        → (memory : Memory) (entry : Entry) → HoldsRecords (F.device.contents folder.old).files memory
+        → IsSaidOf run.now entry → IsRemembered task.now entry memory result
+        (F.device.contents folder.new).files }
 {
     if task.outputs.as_slice().is_empty() {
         return Ok(());

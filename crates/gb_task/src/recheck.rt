@@ -6,7 +6,7 @@
 //! the run is a full one.
 ghost use Rattle.std.specs.Prelude.{◌≡◌, ◌||◌, false, map, IfOk, IfErr, OnOk};
 ghost use Rattle.std.specs.List.{list_any};
-ghost use Rattle.gb_folder.specs.Calls.{Requests, no_change};
+ghost use Rattle.gb_folder.specs.Calls.{OnlyReads, Requests, no_change};
 ghost use Rattle.gb_folder.specs.Files.{is_own};
 ghost use Rattle.gb_label.specs.Deciding.{HasNamesInOrder};
 ghost use Rattle.gb_label.specs.ReadingAnswered.{AreInputsAnswered, AreOutputsAnswered};
@@ -59,30 +59,29 @@ pub(crate) fn recheck_task<F: Folder>(
     requires not_own { list_any (λ output. is_own output.place) task.now.outputs ≡ false }
     requires inputs { AreInputs task.now observed.inputs.items }
     requires outputs { AreOutputs task.now observed.outputs.items }
-    ensures requests { Requests F.failures F.may_leave F.allowed no_change folder.old folder.new }
-    ensures back { F.faithful folder.new → F.faithful folder.old }
-    ensures blame { Blames result (F.failures folder.old) (F.failures folder.new) }
+    ensures reads { OnlyReads F.device folder.old folder.new }
+    ensures blame { Blames result (F.device.failures folder.old) (F.device.failures folder.new) }
     ensures blamed { BlamesOnly (λ place. is_input_of task.now place || is_output_of task.now place) result }
     // Over any folder: the digests are those of what the run works on, and the changes are decided
     // on them.
     ensures recheck { IfOk result (IsRecheck options task.now last.now) }
     // And they are what calls returned, before and now.
-    ensures answered { (first : _) → Requests F.failures F.may_leave F.allowed no_change first folder.old
-        → AreInputsAnswered F.failures F.may_leave F.allowed first folder.old task.now observed.inputs.items
-        → AreOutputsAnswered F.failures F.may_leave F.allowed first folder.old task.now observed.outputs.items
-        → IfOk result (WasReadRecheck F.failures F.may_leave F.allowed first folder.new task.now) }
-    ensures same { F.faithful folder.new → F.contents folder.new ≡ F.contents folder.old }
+    ensures answered { (first : _) → Requests F.device no_change first folder.old
+        → AreInputsAnswered F.device first folder.old task.now observed.inputs.items
+        → AreOutputsAnswered F.device first folder.old task.now observed.outputs.items
+        → IfOk result (WasReadRecheck F.device first folder.new task.now) }
     // Where nobody else writes, the result is the earlier decision.
-    ensures as_before { F.faithful folder.new → (kinds : Kinds) (world : World)
-        → world.folder ≡ outside (F.contents folder.old)
-        → AreInputsObserved task.now (F.contents folder.old).files observed.inputs.items
-        → AreOutputsObserved task.now (F.contents folder.old).files observed.outputs.items
+    ensures as_before { F.device.faithful folder.new → (kinds : Kinds) (world : World)
+        → world.folder ≡ outside (F.device.contents folder.old)
+        → AreInputsObserved task.now (F.device.contents folder.old).files observed.inputs.items
+        → AreOutputsObserved task.now (F.device.contents folder.old).files observed.outputs.items
         → IsToGoOn kinds options task.now world last.now
-        → IfOk result (IsAsBefore kinds options task.now (F.contents folder.old).files world) }
-    ensures err { F.faithful folder.new → AreInputsObserved task.now (F.contents folder.old).files
+        → IfOk result (IsAsBefore kinds options task.now (F.device.contents folder.old).files world) }
+    ensures err { F.device.faithful folder.new → AreInputsObserved task.now
+        (F.device.contents folder.old).files
         observed.inputs.items
-        → AreOutputsObserved task.now (F.contents folder.old).files observed.outputs.items
-        → IfErr result (IsOfMachine (F.failures folder.old) (F.failures folder.new)) }
+        → AreOutputsObserved task.now (F.device.contents folder.old).files observed.outputs.items
+        → IfErr result (IsOfMachine (F.device.failures folder.old) (F.device.failures folder.new)) }
 {
     outside_is_enough();
     prepared_is_case();

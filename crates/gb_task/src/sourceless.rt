@@ -41,29 +41,31 @@ pub fn execute_without_source<F: Folder>(
     requires not_own { list_any (λ output. is_own output.place) task.now.outputs ≡ false }
     requires path { path ≡ task.now.path }
     ensures path { result.path ≡ task.now.path }
-    ensures back { F.faithful folder.new → F.faithful folder.old }
     ensures has_actions { result.has_actions ≡ not (is_empty task.now.actions) }
     ensures outcome { IsReportedOf cleared_outcome result.outcome }
     ensures lines { result.lines ≡ [] }
     // Over any folder: it was cleared by these calls.
     ensures calls { (calls : List Call) × (ended : Ending) × Leads F.device folder.old calls folder.new
         × Clears task.now was_read calls [] ended × (result.outcome ≡ cleared_outcome ended) }
-    ensures requests { Requests F.failures F.may_leave F.allowed (takes_at (is_of_execution task.now))
+    ensures requests { Requests F.device (takes_at (is_of_execution task.now))
         folder.old
         folder.new }
     ensures blame { (place : List ℕ) → result.outcome ≡ Failed (Fault.Device place)
-        → HasRisen (F.failures folder.old) (F.failures folder.new) }
+        → HasRisen (F.device.failures folder.old) (F.device.failures folder.new) }
     ensures blamed { (place : List ℕ) → result.outcome ≡ Failed (Fault.Device place)
         → IsTrue (is_output_of task.now place) }
-    ensures changes { F.faithful folder.new
-        → ChangesOnly (is_of_execution task.now) (F.contents folder.old) (F.contents folder.new) }
+    ensures changes { F.device.faithful folder.new
+        → ChangesOnly (is_of_execution task.now) (F.device.contents folder.old) (F.device.contents folder.new) }
     // Where the task has no source, this is its execution.
-    ensures execution { F.faithful folder.new → (kinds : Kinds) (registry_of : Registering) (options : Options)
-        (plan : Plan) (moment : Moment) → TornWritesAreDetected IsText record_place (F.may_leave folder.old)
-        → BeginsAt task.now was_read (F.contents folder.old) (F.failures folder.old) moment
+    ensures execution { F.device.faithful folder.new → (kinds : Kinds) (registry_of : Registering)
+        (options : Options)
+        (plan : Plan) (moment : Moment) → TornWritesAreDetected IsText record_place
+        (F.device.may_leave folder.old)
+        → BeginsAt task.now was_read (F.device.contents folder.old) (F.device.failures folder.old) moment
         → early_case task.now moment.world.folder ≡ Some HasNoSource
-        → HasExecuted (setting_with kinds registry_of (F.may_leave folder.old)) options plan task.now moment
-        result (F.contents folder.old) (F.failures folder.new) (F.contents folder.new) }
+        → HasExecuted (setting_with kinds registry_of (F.device.may_leave folder.old)) options plan task.now
+        moment
+        result (F.device.contents folder.old) (F.device.failures folder.new) (F.device.contents folder.new) }
 {
     let has_actions = !task.actions.is_empty();
     let cleared = clear(alloc, folder, task, was_read);

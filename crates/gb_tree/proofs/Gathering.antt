@@ -17,6 +17,7 @@ use Rattle.gb_tree.specs.declared.property.Naming.{Naming}
 use Rattle.gb_tree.proofs.Answering.{all_zip_more, tree_longer}
 use Rattle.gb_tree.proofs.Holding.{take_again}
 use Rattle.gb_tree.proofs.Loops.{with_none}
+use Rattle.gb_folder.specs.Calls.{Device}
 
 -- ---- One pair more
 
@@ -35,21 +36,21 @@ flat_push R f (a ∷ xs) [] x y all = absurd all
 flat_push R f (a ∷ xs) (b ∷ ys) x y all =
     ap (λ more. f (a, b) ++ more) (flat_push R f xs ys x y all.1) ∙ sym (append_assoc (f (a, b)) (flat_map f (zip xs ys)) (f (x, y)))
 
-module _ {F : Type 0} {failures : F → ℕ} {may_leave : F → Tearing} {allowed : F → Call → F → Type 0} where
+module _ {F : Type 0} {device : Device F} where
   -- ---- Listings of starts
 
   -- what was listed at one start more
   pub one_start_more : {old now new : F} (naming : Naming) (include exclude : List (List ℕ)) (starts : List (Place × Place)) (i : ℕ) (start : Place × Place)
       (places : List Place) (kept more : Entries) → i < length starts → start ≡ get_or starts i start
-      → Requests failures may_leave allowed no_change old now → Requests failures may_leave allowed no_change now new
-      → WereListed failures may_leave allowed now new start.1 places → more ≡ held (kept ++ entries_in naming include exclude start.0 places)
-      → ((listings : List (List Place)) × AllZip (IsStartListed failures may_leave allowed old now) (take i starts) listings
+      → Requests device no_change old now → Requests device no_change now new
+      → WereListed device now new start.1 places → more ≡ held (kept ++ entries_in naming include exclude start.0 places)
+      → ((listings : List (List Place)) × AllZip (IsStartListed device old now) (take i starts) listings
       × (kept ≡ held (listed_in naming include exclude (zip (take i starts) listings))))
-      → (listings : List (List Place)) × AllZip (IsStartListed failures may_leave allowed old new) (take (i + 1) starts) listings
+      → (listings : List (List Place)) × AllZip (IsStartListed device old new) (take (i + 1) starts) listings
       × (more ≡ held (listed_in naming include exclude (zip (take (i + 1) starts) listings)))
   one_start_more {old = old} {now = now} {new = new} naming include exclude starts i start places kept more within is before requests way taken so_far =
-      let listed = IsStartListed failures may_leave allowed old new in
-      let longer = all_zip_more (IsStartListed failures may_leave allowed old now) listed (λ start places was. on_longer_way (requests_nothing old) requests was)
+      let listed = IsStartListed device old new in
+      let longer = all_zip_more (IsStartListed device old now) listed (λ start places was. on_longer_way (requests_nothing old) requests was)
       (take i starts) so_far.0 so_far.1 in
       let prefix : take (i + 1) starts ≡ take i starts ++ start ∷ [] = take_more starts i start within ∙ ap (λ next. take i starts ++ next ∷ []) (sym is) in
       let here = entries_in naming include exclude start.0 places in
@@ -67,15 +68,15 @@ module _ {F : Type 0} {failures : F → ℕ} {may_leave : F → Tearing} {allowe
 
   -- what was read of one file more
   pub one_file_more : {first now new : F} (files : List ScannedFile) (i : ℕ) (x : ScannedFile) (tree more : Files) (bytes : Bytes) → i < length files → x ≡ get_or files i x
-      → Requests failures may_leave allowed no_change now new → IsTreeRead failures may_leave allowed first now (entries_observed (take i files)) tree
-      → WereRead failures may_leave allowed first new x.place bytes → more ≡ tree ++ (x.path, bytes) ∷ []
-      → IsTreeRead failures may_leave allowed first new (entries_observed (take (i + 1) files)) more
+      → Requests device no_change now new → IsTreeRead device first now (entries_observed (take i files)) tree
+      → WereRead device first new x.place bytes → more ≡ tree ++ (x.path, bytes) ∷ []
+      → IsTreeRead device first new (entries_observed (take (i + 1) files)) more
   one_file_more {first = first} {new = new} files i x tree more bytes within is requests so_far way added =
       let before = entries_observed (take i files) in
       let entries : entries_observed (take (i + 1) files) ≡ before ++ (x.path, x.place) ∷ [] =
       ap entries_observed (take_more files i x within ∙ ap (λ file. take i files ++ file ∷ []) (sym is))
       ∙ map-append (λ (file : ScannedFile). (file.path, file.place)) (take i files) (x ∷ []) in
-      let read = IsFileRead failures may_leave allowed first new in
+      let read = IsFileRead device first new in
       subst (λ (made : Files). AllZip read (entries_observed (take (i + 1) files)) made) (sym added)
       (subst (λ (es : Entries). AllZip read es (tree ++ (x.path, bytes) ∷ [])) (sym entries)
       (all_zip_push read before tree (x.path, x.place) (x.path, bytes) (tree_longer (requests_nothing first) requests before tree so_far) (refl, way)))

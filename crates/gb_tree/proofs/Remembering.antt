@@ -12,6 +12,7 @@ use Rattle.gb_tree.specs.Seen.{AreAmong, AreSeen, AreSeenIn, IsSeenIn, SeenFile,
 use Rattle.gb_tree.specs.declared.kept.ScannedFile.{ScannedFile}
 use Rattle.gb_tree.proofs.Holding.{all_append}
 use Rattle.gb_tree.proofs.Observed.{all_at}
+use Rattle.gb_folder.specs.Calls.{Device}
 
 -- what holds of all holds of one of them
 pub all_contained : {X : Type 0} (P : X → Type 0) (xs : List X) (x : X) → Contains xs x → AllByRecursion P xs → P x
@@ -87,35 +88,35 @@ contained_in f (other ∷ ys) (suc i) y x within is among = Contains-append_righ
 -- ---- Over any folder
 
 -- nothing is remembered
-pub none_seen : {F : Type 0} (failures : F → ℕ) (may_leave : F → Tearing) (allowed : F → Call → F → Type 0) (since now : F) (seen : List SeenFile) → seen ≡ [] → AreSeen failures may_leave allowed since now seen
-none_seen failures may_leave allowed since now seen none = subst (λ (files : List SeenFile). AreSeen failures may_leave allowed since now files) (sym none) tt
+pub none_seen : {F : Type 0} (device : Device F) (since now : F) (seen : List SeenFile) → seen ≡ [] → AreSeen device since now seen
+none_seen device since now seen none = subst (λ (files : List SeenFile). AreSeen device since now files) (sym none) tt
 
 -- what was seen before, and what was read
-pub seen_remembered : {F : Type 0} (failures : F → ℕ) (may_leave : F → Tearing) (allowed : F → Call → F → Type 0) (since now : F) (seen old : List SeenFile) (readings : List (List ℕ × List ScannedFile)) → AreAmong seen (old ++ seen_in readings)
-    → AreSeen failures may_leave allowed since now old → AllByRecursion (λ reading. WereObserved failures may_leave allowed since now reading.1) readings
-    → AreSeen failures may_leave allowed since now seen
-seen_remembered failures may_leave allowed since now seen old readings among before were =
-    all_among (WasSeen failures may_leave allowed since now) seen (old ++ seen_in readings) among (all_append (WasSeen failures may_leave allowed since now) old (seen_in readings) before
-    (all_seen (WasSeen failures may_leave allowed since now) (WasObserved failures may_leave allowed since now) (λ file was. (was.0, was.1, was.2)) readings were))
+pub seen_remembered : {F : Type 0} (device : Device F) (since now : F) (seen old : List SeenFile) (readings : List (List ℕ × List ScannedFile)) → AreAmong seen (old ++ seen_in readings)
+    → AreSeen device since now old → AllByRecursion (λ reading. WereObserved device since now reading.1) readings
+    → AreSeen device since now seen
+seen_remembered device since now seen old readings among before were =
+    all_among (WasSeen device since now) seen (old ++ seen_in readings) among (all_append (WasSeen device since now) old (seen_in readings) before
+    (all_seen (WasSeen device since now) (WasObserved device since now) (λ file was. (was.0, was.1, was.2)) readings were))
 
 -- the same of the files of one reading
-pub files_remembered : {F : Type 0} (failures : F → ℕ) (may_leave : F → Tearing) (allowed : F → Call → F → Type 0) (since now : F) (seen old : List SeenFile) (files : List ScannedFile) → AreAmong seen (old ++ places_read files)
-    → AreSeen failures may_leave allowed since now old → WereObserved failures may_leave allowed since now files → AreSeen failures may_leave allowed since now seen
-files_remembered failures may_leave allowed since now seen old files among before were =
-    seen_remembered failures may_leave allowed since now seen old (([], files) ∷ []) (subst (λ (more : List SeenFile). AreAmong seen (old ++ more)) (sym (append-nil (places_read files))) among) before (were, tt)
+pub files_remembered : {F : Type 0} (device : Device F) (since now : F) (seen old : List SeenFile) (files : List ScannedFile) → AreAmong seen (old ++ places_read files)
+    → AreSeen device since now old → WereObserved device since now files → AreSeen device since now seen
+files_remembered device since now seen old files among before were =
+    seen_remembered device since now seen old (([], files) ∷ []) (subst (λ (more : List SeenFile). AreAmong seen (old ++ more)) (sym (append-nil (places_read files))) among) before (were, tt)
 
 -- a file with a digest that was seen
-pub seen_observed : {F : Type 0} (failures : F → ℕ) (may_leave : F → Tearing) (allowed : F → Call → F → Type 0) (since now : F) (seen : List SeenFile) (path : List ℕ) (place : Place) (digest : List ℕ) → Contains seen (place, digest)
-    → AreSeen failures may_leave allowed since now seen
-    → WasObserved failures may_leave allowed since now (record { path = path; place = place; digest = digest; kept = None })
-seen_observed failures may_leave allowed since now seen path place digest among all =
-    let was = all_contained (WasSeen failures may_leave allowed since now) seen (place, digest) among all in
+pub seen_observed : {F : Type 0} (device : Device F) (since now : F) (seen : List SeenFile) (path : List ℕ) (place : Place) (digest : List ℕ) → Contains seen (place, digest)
+    → AreSeen device since now seen
+    → WasObserved device since now (record { path = path; place = place; digest = digest; kept = None })
+seen_observed device since now seen path place digest among all =
+    let was = all_contained (WasSeen device since now) seen (place, digest) among all in
     (was.0, was.1, was.2, inl refl)
 
-module _ {F : Type 0} {failures : F → ℕ} {may_leave : F → Tearing} {allowed : F → Call → F → Type 0} where
+module _ {F : Type 0} {device : Device F} where
   -- what was seen on a part of the way was seen on all of it
-  pub seen_longer : {first old new end : F} → Requests failures may_leave allowed no_change first old → Requests failures may_leave allowed no_change new end
-      → (seen : List SeenFile) → AreSeen failures may_leave allowed old new seen → AreSeen failures may_leave allowed first end seen
+  pub seen_longer : {first old new end : F} → Requests device no_change first old → Requests device no_change new end
+      → (seen : List SeenFile) → AreSeen device old new seen → AreSeen device first end seen
   seen_longer before following [] all = tt
   seen_longer before following (file ∷ seen) all =
       ((all.0.0, read_longer before following file.0 all.0.0 all.0.1, all.0.2), seen_longer before following seen all.1)

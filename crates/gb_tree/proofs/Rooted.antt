@@ -24,6 +24,7 @@ use Rattle.gb_tree.proofs.Answering.{all_zip_more}
 use Rattle.gb_tree.proofs.Holding.{take_again}
 use Rattle.gb_tree.proofs.Loops.{step_here}
 use Rattle.gb_tree.proofs.Refused.{back_first, prefix_first, machine_before}
+use Rattle.gb_folder.specs.Calls.{Device}
 
 -- ---- What is held
 
@@ -148,22 +149,22 @@ flat_both R f (a ∷ xs) [] more others all = absurd all
 flat_both R f (a ∷ xs) (b ∷ ys) more others all =
     ap (λ rest. f (a, b) ++ rest) (flat_both R f xs ys more others all.1) ∙ sym (append_assoc (f (a, b)) (flat_map f (zip xs ys)) (flat_map f (zip more others)))
 
-module _ {F : Type 0} {failures : F → ℕ} {may_leave : F → Tearing} {allowed : F → Call → F → Type 0} where
+module _ {F : Type 0} {device : Device F} where
   -- what was listed at the starts of one root more
   pub one_root_more : {old now new : F} (naming : Naming) (include exclude : List (List ℕ)) (roots : List Place) (i : ℕ) (root : Place) (kept here : Entries)
-      → i < length roots → root ≡ get_or roots i root → Requests failures may_leave allowed no_change old now → Requests failures may_leave allowed no_change now new
-      → ((listings : List (List Place)) × AllZip (IsStartListed failures may_leave allowed old now) (starts_in include (take i roots)) listings
+      → i < length roots → root ≡ get_or roots i root → Requests device no_change old now → Requests device no_change now new
+      → ((listings : List (List Place)) × AllZip (IsStartListed device old now) (starts_in include (take i roots)) listings
       × (kept ≡ held (listed_in naming include exclude (zip (starts_in include (take i roots)) listings))))
-      → ((listings : List (List Place)) × AllZip (IsStartListed failures may_leave allowed now new) (starts_in include (root ∷ [])) listings
+      → ((listings : List (List Place)) × AllZip (IsStartListed device now new) (starts_in include (root ∷ [])) listings
       × (here ≡ held (listed_in naming include exclude (zip (starts_in include (root ∷ [])) listings))))
-      → (listings : List (List Place)) × AllZip (IsStartListed failures may_leave allowed old new) (starts_in include (take (i + 1) roots)) listings
+      → (listings : List (List Place)) × AllZip (IsStartListed device old new) (starts_in include (take (i + 1) roots)) listings
       × (held (kept ++ here) ≡ held (listed_in naming include exclude (zip (starts_in include (take (i + 1) roots)) listings)))
   one_root_more {old = old} {now = now} {new = new} naming include exclude roots i root kept here within is before requests first second =
-      let listed = IsStartListed failures may_leave allowed old new in
+      let listed = IsStartListed device old new in
       let passed = starts_in include (take i roots) in
       let these = starts_in include (root ∷ []) in
-      let earlier = all_zip_more (IsStartListed failures may_leave allowed old now) listed (λ start places was. on_longer_way (requests_nothing old) requests was) passed first.0 first.1 in
-      let later = all_zip_more (IsStartListed failures may_leave allowed now new) listed (λ start places was. on_longer_way before (requests_nothing new) was) these second.0 second.1 in
+      let earlier = all_zip_more (IsStartListed device old now) listed (λ start places was. on_longer_way (requests_nothing old) requests was) passed first.0 first.1 in
+      let later = all_zip_more (IsStartListed device now new) listed (λ start places was. on_longer_way before (requests_nothing new) was) these second.0 second.1 in
       let listings = first.0 ++ second.0 in
       let prefix = starts_more include roots i root within is in
       let given = λ (listing : (Place × Place) × List Place). entries_in naming include exclude listing.0.0 listing.1 in

@@ -7,6 +7,7 @@ use Rattle.gb_folder.specs.Calls.{Call}
 use Rattle.gb_folder.specs.Files.{Bytes, Files, Place, Tearing, file_at}
 use Rattle.gb_tree.specs.Tree.{bytes_at, is_large}
 use Rattle.gb_tree.specs.declared.kept.ScannedFile.{ScannedFile}
+use Rattle.gb_folder.specs.Calls.{Device}
 
 -- the place of a file, and the digest of its bytes
 abbrev pub SeenFile : Type 0
@@ -25,16 +26,16 @@ abbrev pub AreAmong : List SeenFile → List SeenFile → Type 0
 AreAmong files those = (file : SeenFile) → Contains files file → Contains those file
 
 -- a call returned the bytes of the file, and the digest is theirs
-abbrev pub WasSeen : {F : Type 0} → (F → ℕ) → (F → Tearing) → (F → Call → F → Type 0) → F → F → SeenFile
+abbrev pub WasSeen : {F : Type 0} → Device F → F → F → SeenFile
     → Type 0
-WasSeen failures may_leave allowed old new file =
-    (bytes : Bytes) × WereRead failures may_leave allowed old new file.0 bytes × (file.1 ≡ sha256 bytes)
+WasSeen device old new file =
+    (bytes : Bytes) × WereRead device old new file.0 bytes × (file.1 ≡ sha256 bytes)
 
 -- the same holds for each file
-abbrev pub AreSeen : {F : Type 0} → (F → ℕ) → (F → Tearing) → (F → Call → F → Type 0) → F → F
+abbrev pub AreSeen : {F : Type 0} → Device F → F → F
     → List SeenFile → Type 0
-AreSeen failures may_leave allowed since now seen =
-    AllByRecursion (WasSeen failures may_leave allowed since now) seen
+AreSeen device since now seen =
+    AllByRecursion (WasSeen device since now) seen
 
 -- a file is at the place and is not too large, and the digest is that of its bytes
 pub record IsSeenIn (files : Files) (file : SeenFile) : Type 0 where

@@ -2,7 +2,7 @@
 //! time.
 ghost use Rattle.std.specs.Prelude.{◌≡◌, ◌++◌, IfOk, IfSome};
 ghost use Rattle.std.specs.List.{AllByRecursion};
-ghost use Rattle.gb_folder.specs.Calls.{Requests, no_change};
+ghost use Rattle.gb_folder.specs.Calls.{OnlyReads, Requests, no_change};
 ghost use Rattle.gb_tree.specs.Answered.{WasObserved, WereObserved};
 ghost use Rattle.gb_tree.specs.Reading.{IsObservedIn};
 ghost use Rattle.gb_tree.specs.Seen.{AreSeen, AreSeenIn};
@@ -24,14 +24,12 @@ const FEW: usize = 16;
 /// files is passed over, and so is what cannot be listed or read. Where memory lacks, nothing more
 /// is remembered. If the files of all roots are not in their order, some may not be found later.
 pub fn read_ahead<F: Folder>(alloc: Global, folder: &mut F, roots: &[Place], seen: &mut Seen)
-    ensures requests { Requests F.failures F.may_leave F.allowed no_change folder.old folder.new }
-    ensures back { F.faithful folder.new → F.faithful folder.old }
-    ensures same { F.faithful folder.new → F.contents folder.new ≡ F.contents folder.old }
-    ensures seen { (since : _) → Requests F.failures F.may_leave F.allowed no_change since folder.old
-        → AreSeen F.failures F.may_leave F.allowed since folder.old seen.old
-        → AreSeen F.failures F.may_leave F.allowed since folder.new seen.new }
-    ensures seen_in { F.faithful folder.new → AreSeenIn (F.contents folder.old).files seen.old
-        → AreSeenIn (F.contents folder.old).files seen.new }
+    ensures reads { OnlyReads F.device folder.old folder.new }
+    ensures seen { (since : _) → Requests F.device no_change since folder.old
+        → AreSeen F.device since folder.old seen.old
+        → AreSeen F.device since folder.new seen.new }
+    ensures seen_in { F.device.faithful folder.new → AreSeenIn (F.device.contents folder.old).files seen.old
+        → AreSeenIn (F.device.contents folder.old).files seen.new }
 {
     if roots.is_empty() {
         return;
@@ -48,13 +46,11 @@ fn scan_roots<F: Folder>(
     folder: &mut F,
     roots: &[Place],
 ) -> Result<Vec<ScannedFile>, AllocError>
-    ensures requests { Requests F.failures F.may_leave F.allowed no_change folder.old folder.new }
-    ensures back { F.faithful folder.new → F.faithful folder.old }
-    ensures same { F.faithful folder.new → F.contents folder.new ≡ F.contents folder.old }
+    ensures reads { OnlyReads F.device folder.old folder.new }
     ensures answered { IfOk result
-        (λ files. WereObserved F.failures F.may_leave F.allowed folder.old folder.new files.items) }
-    ensures observed { F.faithful folder.new → IfOk result
-        (λ files. AllByRecursion (IsObservedIn (F.contents folder.old).files) files.items) }
+        (λ files. WereObserved F.device folder.old folder.new files.items) }
+    ensures observed { F.device.faithful folder.new → IfOk result
+        (λ files. AllByRecursion (IsObservedIn (F.device.contents folder.old).files) files.items) }
 {
     let mut files = Vec::with_capacity(alloc, roots.len())?;
     let mut waiting = Waiting::Nothing;
@@ -73,18 +69,16 @@ fn scan_root<F: Folder>(
     files: &mut Vec<ScannedFile>,
     waiting: Waiting,
 ) -> Result<Waiting, AllocError>
-    ensures requests { Requests F.failures F.may_leave F.allowed no_change folder.old folder.new }
-    ensures back { F.faithful folder.new → F.faithful folder.old }
-    ensures same { F.faithful folder.new → F.contents folder.new ≡ F.contents folder.old }
-    ensures answered { (first : _) → Requests F.failures F.may_leave F.allowed no_change first folder.old
-        → WereObserved F.failures F.may_leave F.allowed first folder.old
+    ensures reads { OnlyReads F.device folder.old folder.new }
+    ensures answered { (first : _) → Requests F.device no_change first folder.old
+        → WereObserved F.device first folder.old
         (files.old.items ++ waiting_files waiting)
-        → IfOk result (λ left. WereObserved F.failures F.may_leave F.allowed first folder.new
+        → IfOk result (λ left. WereObserved F.device first folder.new
         (files.new.items ++ waiting_files left)) }
-    ensures observed { F.faithful folder.new
-        → AllByRecursion (IsObservedIn (F.contents folder.old).files)
+    ensures observed { F.device.faithful folder.new
+        → AllByRecursion (IsObservedIn (F.device.contents folder.old).files)
         (files.old.items ++ waiting_files waiting)
-        → IfOk result (λ left. AllByRecursion (IsObservedIn (F.contents folder.old).files)
+        → IfOk result (λ left. AllByRecursion (IsObservedIn (F.device.contents folder.old).files)
         (files.new.items ++ waiting_files left)) }
 {
     let places = few_at(alloc, folder, root);
@@ -100,9 +94,7 @@ fn scan_root<F: Folder>(
 
 /// The places of the files at the root; none if they are many or it cannot be listed.
 fn few_at<F: Folder>(alloc: Global, folder: &mut F, root: &Place) -> Vec<Place>
-    ensures requests { Requests F.failures F.may_leave F.allowed no_change folder.old folder.new }
-    ensures back { F.faithful folder.new → F.faithful folder.old }
-    ensures same { F.faithful folder.new → F.contents folder.new ≡ F.contents folder.old }
+    ensures reads { OnlyReads F.device folder.old folder.new }
 {
     match listed(alloc, folder, root) {
         Ok(places) => few(alloc, places),
@@ -124,13 +116,11 @@ fn few(alloc: Global, places: Vec<Place>) -> Vec<Place> {
 
 /// The file at the place, if it can be read.
 fn scan_place<F: Folder>(alloc: Global, folder: &mut F, place: &Place) -> Option<Found>
-    ensures requests { Requests F.failures F.may_leave F.allowed no_change folder.old folder.new }
-    ensures back { F.faithful folder.new → F.faithful folder.old }
-    ensures same { F.faithful folder.new → F.contents folder.new ≡ F.contents folder.old }
+    ensures reads { OnlyReads F.device folder.old folder.new }
     ensures answered { IfSome result
-        (λ found. WasObserved F.failures F.may_leave F.allowed folder.old folder.new (file_in found)) }
-    ensures observed { F.faithful folder.new → IfSome result
-        (λ found. IsObservedIn (F.contents folder.old).files (file_in found)) }
+        (λ found. WasObserved F.device folder.old folder.new (file_in found)) }
+    ensures observed { F.device.faithful folder.new → IfSome result
+        (λ found. IsObservedIn (F.device.contents folder.old).files (file_in found)) }
 {
     let path = RelPath::read(alloc, "").ok()?;
     scan_file(alloc, folder, &path, place, &mut 0).ok()

@@ -4,7 +4,7 @@ ghost use Rattle.std.specs.List.{AllByRecursion};
 ghost use Rattle.std.specs.FinMap.Entries.{is_sorted, put};
 ghost use Rattle.gb_core.specs.Lists.{byte_order};
 ghost use Rattle.gb_folder.specs.Answers.{WereRead};
-ghost use Rattle.gb_folder.specs.Calls.{Requests, no_change};
+ghost use Rattle.gb_folder.specs.Calls.{OnlyReads, Requests, no_change};
 ghost use Rattle.gb_tree.specs.Tree.{Blames, IsTreeFaultOfMachine, bytes_at, contents_at, is_among};
 ghost use Rattle.gb_tree.specs.Prints.{digests_of};
 ghost use Rattle.gb_tree.specs.Answered.{IsTreeRead, WasObserved, WereObserved};
@@ -28,21 +28,19 @@ fn complete<F: Folder>(
     observed: ScannedFile,
 ) -> Result<(RelPath, Bytes, [u8; 32]), TreeFault>
     requires { IsTrue (is_digest_of observed.kept observed.digest) }
-    ensures requests { Requests F.failures F.may_leave F.allowed no_change folder.old folder.new }
-    ensures back { F.faithful folder.new → F.faithful folder.old }
+    ensures reads { OnlyReads F.device folder.old folder.new }
     ensures blame { Blames (λ at. at ≡ observed.place)
-        (F.failures folder.old) (F.failures folder.new) result }
-    ensures same { F.faithful folder.new → F.contents folder.new ≡ F.contents folder.old }
+        (F.device.failures folder.old) (F.device.failures folder.new) result }
     ensures path { IfOk result (λ made. made.0 ≡ observed.path) }
     ensures digest { IfOk result (λ made. made.2 ≡ sha256 made.1) }
-    ensures answered { (first : _) → Requests F.failures F.may_leave F.allowed no_change first folder.old
-        → WasObserved F.failures F.may_leave F.allowed first folder.old observed
+    ensures answered { (first : _) → Requests F.device no_change first folder.old
+        → WasObserved F.device first folder.old observed
         → IfOk result
-        (λ made. WereRead F.failures F.may_leave F.allowed first folder.new observed.place made.1) }
-    ensures read { F.faithful folder.new → IsObservedIn (F.contents folder.old).files observed
-        → IfOk result (λ made. made.1 ≡ bytes_at (F.contents folder.old).files observed.place) }
-    ensures err { F.faithful folder.new → IsObservedIn (F.contents folder.old).files observed
-        → IfErr result (IsTreeFaultOfMachine (F.failures folder.old) (F.failures folder.new)) }
+        (λ made. WereRead F.device first folder.new observed.place made.1) }
+    ensures read { F.device.faithful folder.new → IsObservedIn (F.device.contents folder.old).files observed
+        → IfOk result (λ made. made.1 ≡ bytes_at (F.device.contents folder.old).files observed.place) }
+    ensures err { F.device.faithful folder.new → IsObservedIn (F.device.contents folder.old).files observed
+        → IfErr result (IsTreeFaultOfMachine (F.device.failures folder.old) (F.device.failures folder.new)) }
 {
     let ScannedFile {
         path,
@@ -80,26 +78,24 @@ pub(crate) fn complete_all<F: Folder>(
     observed: Vec<ScannedFile>,
 ) -> Result<(Files, Vec<(RelPath, [u8; 32])>), TreeFault>
     requires { IsReading observed.items }
-    ensures requests { Requests F.failures F.may_leave F.allowed no_change folder.old folder.new }
-    ensures back { F.faithful folder.new → F.faithful folder.old }
+    ensures reads { OnlyReads F.device folder.old folder.new }
     ensures blame { Blames (λ at. IsTrue (is_among (entries_observed observed.items) at))
-        (F.failures folder.old) (F.failures folder.new) result }
-    ensures same { F.faithful folder.new → F.contents folder.new ≡ F.contents folder.old }
+        (F.device.failures folder.old) (F.device.failures folder.new) result }
     ensures digests { IfOk result (λ made. made.1.items ≡ digests_of made.0) }
     ensures ordered { IfOk result (λ made. IsTrue (is_sorted byte_order made.1.items)) }
     ensures paths { IfOk result
         (λ made. map (λ file. file.0) made.0 ≡ map (λ file. file.path) observed.items) }
-    ensures answered { (first : _) → Requests F.failures F.may_leave F.allowed no_change first folder.old
-        → WereObserved F.failures F.may_leave F.allowed first folder.old observed.items
-        → IfOk result (λ made. IsTreeRead F.failures F.may_leave F.allowed first folder.new
+    ensures answered { (first : _) → Requests F.device no_change first folder.old
+        → WereObserved F.device first folder.old observed.items
+        → IfOk result (λ made. IsTreeRead F.device first folder.new
         (entries_observed observed.items) made.0) }
-    ensures read { F.faithful folder.new → AllByRecursion (IsObservedIn (F.contents folder.old).files)
+    ensures read { F.device.faithful folder.new → AllByRecursion (IsObservedIn (F.device.contents folder.old).files)
         observed.items
-        → IfOk result (λ made. made.0 ≡ contents_at (F.contents folder.old).files
+        → IfOk result (λ made. made.0 ≡ contents_at (F.device.contents folder.old).files
         (entries_observed observed.items)) }
-    ensures err { F.faithful folder.new → AllByRecursion (IsObservedIn (F.contents folder.old).files)
+    ensures err { F.device.faithful folder.new → AllByRecursion (IsObservedIn (F.device.contents folder.old).files)
         observed.items
-        → IfErr result (IsTreeFaultOfMachine (F.failures folder.old) (F.failures folder.new)) }
+        → IfErr result (IsTreeFaultOfMachine (F.device.failures folder.old) (F.device.failures folder.new)) }
 {
     let mut digests = Vec::with_capacity(alloc, observed.len())?;
     let mut files = Files::new(alloc);

@@ -7,7 +7,7 @@ ghost use Rattle.std.specs.Ordering.{is_lt};
 ghost use Rattle.std.specs.FinMap.Entries.{is_sorted};
 ghost use Rattle.gb_core.specs.Place.{is_beneath, is_under};
 ghost use Rattle.gb_core.specs.Lists.{byte_order, first_of};
-ghost use Rattle.gb_folder.specs.Calls.{Requests, no_change};
+ghost use Rattle.gb_folder.specs.Calls.{OnlyReads};
 ghost use Rattle.gb_folder.specs.Limits.{max_files};
 ghost use Rattle.gb_tree.specs.Tree.{Blames, IsRefused, special_roots, too_many};
 ghost use Rattle.gb_tree.specs.Property.{doubled, entries_in, entries_of, entry_faults, found_from};
@@ -41,23 +41,21 @@ pub(crate) fn entries_of<F: Folder>(
     include: &[Pattern],
     exclude: &[Pattern],
 ) -> Result<Vec<(RelPath, Place)>, TreeFault>
-    ensures requests { Requests F.failures F.may_leave F.allowed no_change folder.old folder.new }
-    ensures back { F.faithful folder.new → F.faithful folder.old }
+    ensures reads { OnlyReads F.device folder.old folder.new }
     ensures blame { Blames (λ at. IsTrue (is_under_any roots.now at))
-        (F.failures folder.old) (F.failures folder.new) result }
+        (F.device.failures folder.old) (F.device.failures folder.new) result }
     ensures under { IfOk result
         (λ entries. AllByRecursion (λ entry. IsTrue (is_under_any roots.now entry.1)) entries.items) }
     ensures ordered { IfOk result (λ entries. IsTrue (is_sorted byte_order entries.items)) }
-    ensures same { F.faithful folder.new → F.contents folder.new ≡ F.contents folder.old }
-    ensures listed { IfOk result (λ entries. AreEntriesListed F.failures F.may_leave F.allowed naming
+    ensures listed { IfOk result (λ entries. AreEntriesListed F.device naming
         roots.now include.now exclude.now folder.old folder.new entries.items) }
-    ensures entries { F.faithful folder.new → IfOk result (λ entries.
-        entries.items ≡ entries_of naming roots.now include.now exclude.now (F.contents folder.old).files) }
-    ensures fit { F.faithful folder.new → OnOk result
-        (entry_faults name.now naming roots.now include.now exclude.now (F.contents folder.old) ≡ []) }
-    ensures err { F.faithful folder.new → IfErr result (λ fault.
-        IsRefused (F.failures folder.old) (F.failures folder.new)
-        (entry_faults name.now naming roots.now include.now exclude.now (F.contents folder.old)) fault) }
+    ensures entries { F.device.faithful folder.new → IfOk result (λ entries.
+        entries.items ≡ entries_of naming roots.now include.now exclude.now (F.device.contents folder.old).files) }
+    ensures fit { F.device.faithful folder.new → OnOk result
+        (entry_faults name.now naming roots.now include.now exclude.now (F.device.contents folder.old) ≡ []) }
+    ensures err { F.device.faithful folder.new → IfErr result (λ fault.
+        IsRefused (F.device.failures folder.old) (F.device.failures folder.new)
+        (entry_faults name.now naming roots.now include.now exclude.now (F.device.contents folder.old)) fault) }
 {
     let roots = distinct(alloc, roots)?;
     let mut entries = found_few(
@@ -84,32 +82,30 @@ fn found_few<F: Folder>(
     exclude: &[Pattern],
     roots: &[Place],
 ) -> Result<Vec<(RelPath, Place)>, TreeFault>
-    ensures requests { Requests F.failures F.may_leave F.allowed no_change folder.old folder.new }
-    ensures back { F.faithful folder.new → F.faithful folder.old }
+    ensures reads { OnlyReads F.device folder.old folder.new }
     ensures blame { Blames (λ at. IsTrue (is_under_any (places_of (starts_in include.now roots.now)) at))
-        (F.failures folder.old) (F.failures folder.new) result }
+        (F.device.failures folder.old) (F.device.failures folder.new) result }
     ensures under { IfOk result (λ entries.
         AllByRecursion
         (λ entry. IsTrue (is_under_any (places_of (starts_in include.now roots.now)) entry.1))
         entries.items) }
-    ensures same { F.faithful folder.new → F.contents folder.new ≡ F.contents folder.old }
     ensures answered { IfOk result (λ entries. (listings : List (List (List ℕ)))
-        × AllZip (IsStartListed F.failures F.may_leave F.allowed folder.old folder.new)
+        × AllZip (IsStartListed F.device folder.old folder.new)
         (starts_in include.now roots.now) listings
         × (entries.items ≡ listed_in naming include.now exclude.now
         (zip (starts_in include.now roots.now) listings))) }
-    ensures found { F.faithful folder.new → IfOk result (λ entries.
+    ensures found { F.device.faithful folder.new → IfOk result (λ entries.
         entries.items
-        ≡ found_from naming include.now exclude.now (F.contents folder.old).files
+        ≡ found_from naming include.now exclude.now (F.device.contents folder.old).files
         (starts_in include.now roots.now)) }
-    ensures none_special { F.faithful folder.new → OnOk result
-        (special_roots (F.contents folder.old) (places_of (starts_in include.now roots.now)) ≡ []) }
+    ensures none_special { F.device.faithful folder.new → OnOk result
+        (special_roots (F.device.contents folder.old) (places_of (starts_in include.now roots.now)) ≡ []) }
     ensures few { IfOk result (λ entries. too_many name.now entries.items ≡ []) }
-    ensures err { F.faithful folder.new → IfErr result (λ fault.
-        IsRefused (F.failures folder.old) (F.failures folder.new)
-        (special_roots (F.contents folder.old) (places_of (starts_in include.now roots.now))
+    ensures err { F.device.faithful folder.new → IfErr result (λ fault.
+        IsRefused (F.device.failures folder.old) (F.device.failures folder.new)
+        (special_roots (F.device.contents folder.old) (places_of (starts_in include.now roots.now))
         ++ too_many name.now
-        (found_from naming include.now exclude.now (F.contents folder.old).files
+        (found_from naming include.now exclude.now (F.device.contents folder.old).files
         (starts_in include.now roots.now))) fault) }
 {
     let entries = found_at_all(alloc, folder, naming, include, exclude, roots)?;
@@ -129,30 +125,28 @@ fn found_at_all<F: Folder>(
     exclude: &[Pattern],
     roots: &[Place],
 ) -> Result<Vec<(RelPath, Place)>, TreeFault>
-    ensures requests { Requests F.failures F.may_leave F.allowed no_change folder.old folder.new }
-    ensures back { F.faithful folder.new → F.faithful folder.old }
+    ensures reads { OnlyReads F.device folder.old folder.new }
     ensures blame { Blames (λ at. IsTrue (is_under_any (places_of (starts_in include.now roots.now)) at))
-        (F.failures folder.old) (F.failures folder.new) result }
+        (F.device.failures folder.old) (F.device.failures folder.new) result }
     ensures under { IfOk result (λ entries.
         AllByRecursion
         (λ entry. IsTrue (is_under_any (places_of (starts_in include.now roots.now)) entry.1))
         entries.items) }
     ensures few { IfOk result (λ entries. length entries.items ≤ max_files + 1) }
-    ensures same { F.faithful folder.new → F.contents folder.new ≡ F.contents folder.old }
     ensures answered { IfOk result (λ entries. (listings : List (List (List ℕ)))
-        × AllZip (IsStartListed F.failures F.may_leave F.allowed folder.old folder.new)
+        × AllZip (IsStartListed F.device folder.old folder.new)
         (starts_in include.now roots.now) listings
         × (entries.items ≡ held (listed_in naming include.now exclude.now
         (zip (starts_in include.now roots.now) listings)))) }
-    ensures found { F.faithful folder.new → IfOk result (λ entries.
+    ensures found { F.device.faithful folder.new → IfOk result (λ entries.
         entries.items
-        ≡ held (found_from naming include.now exclude.now (F.contents folder.old).files
+        ≡ held (found_from naming include.now exclude.now (F.device.contents folder.old).files
         (starts_in include.now roots.now))) }
-    ensures none_special { F.faithful folder.new → OnOk result
-        (special_roots (F.contents folder.old) (places_of (starts_in include.now roots.now)) ≡ []) }
-    ensures special { F.faithful folder.new → IfErr result (λ fault.
-        IsRefused (F.failures folder.old) (F.failures folder.new)
-        (special_roots (F.contents folder.old) (places_of (starts_in include.now roots.now))) fault) }
+    ensures none_special { F.device.faithful folder.new → OnOk result
+        (special_roots (F.device.contents folder.old) (places_of (starts_in include.now roots.now)) ≡ []) }
+    ensures special { F.device.faithful folder.new → IfErr result (λ fault.
+        IsRefused (F.device.failures folder.old) (F.device.failures folder.new)
+        (special_roots (F.device.contents folder.old) (places_of (starts_in include.now roots.now))) fault) }
 {
     let included = Sieve::new(alloc, include)?;
     let excluded = Sieve::new(alloc, exclude)?;
@@ -195,25 +189,23 @@ fn found<F: Folder>(
     starts: &[(Place, Place)],
 ) -> Result<Vec<(RelPath, Place)>, TreeFault>
     requires { AllByRecursion (λ start. IsTrue (is_under start.1 start.0)) starts.now }
-    ensures requests { Requests F.failures F.may_leave F.allowed no_change folder.old folder.new }
-    ensures back { F.faithful folder.new → F.faithful folder.old }
+    ensures reads { OnlyReads F.device folder.old folder.new }
     ensures blame { Blames (λ at. IsTrue (is_under_any (places_of starts.now) at))
-        (F.failures folder.old) (F.failures folder.new) result }
+        (F.device.failures folder.old) (F.device.failures folder.new) result }
     ensures under { IfOk result (λ entries.
         AllByRecursion (λ entry. IsTrue (is_under_any (places_of starts.now) entry.1)) entries.items) }
     ensures few { IfOk result (λ entries. length entries.items ≤ max_files + 1) }
-    ensures same { F.faithful folder.new → F.contents folder.new ≡ F.contents folder.old }
     ensures answered { IfOk result (λ entries. (listings : List (List (List ℕ)))
-        × AllZip (IsStartListed F.failures F.may_leave F.allowed folder.old folder.new) starts.now listings
+        × AllZip (IsStartListed F.device folder.old folder.new) starts.now listings
         × (entries.items ≡ held (listed_in naming include.now exclude.now (zip starts.now listings)))) }
-    ensures found { F.faithful folder.new → IfOk result (λ entries.
+    ensures found { F.device.faithful folder.new → IfOk result (λ entries.
         entries.items
-        ≡ held (found_from naming include.now exclude.now (F.contents folder.old).files starts.now)) }
-    ensures none_special { F.faithful folder.new → OnOk result
-        (special_roots (F.contents folder.old) (places_of starts.now) ≡ []) }
-    ensures special { F.faithful folder.new → IfErr result (λ fault.
-        IsRefused (F.failures folder.old) (F.failures folder.new)
-        (special_roots (F.contents folder.old) (places_of starts.now)) fault) }
+        ≡ held (found_from naming include.now exclude.now (F.device.contents folder.old).files starts.now)) }
+    ensures none_special { F.device.faithful folder.new → OnOk result
+        (special_roots (F.device.contents folder.old) (places_of starts.now) ≡ []) }
+    ensures special { F.device.faithful folder.new → IfErr result (λ fault.
+        IsRefused (F.device.failures folder.old) (F.device.failures folder.new)
+        (special_roots (F.device.contents folder.old) (places_of starts.now)) fault) }
 {
     let mut entries = Vec::new(alloc);
     for (root, start) in starts.iter() {

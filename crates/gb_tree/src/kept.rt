@@ -1,7 +1,7 @@
 //! Files as they were read once. Their bytes are kept where there is room.
 ghost use Rattle.std.specs.Prelude.{◌≡◌, ◌↔◌, [], map, IsTrue, IfOk, IfErr};
 ghost use Rattle.std.specs.List.{AllByRecursion};
-ghost use Rattle.gb_folder.specs.Calls.{Requests, no_change};
+ghost use Rattle.gb_folder.specs.Calls.{OnlyReads, Requests, no_change};
 ghost use Rattle.gb_tree.specs.Tree.{Blames, IsTreeFaultOfMachine, contents_at, is_among};
 ghost use Rattle.gb_tree.specs.Prints.{digests_of};
 
@@ -99,25 +99,23 @@ impl Reading {
         alloc: Global,
         folder: &mut F,
     ) -> Result<(Snapshot, Prints), TreeFault>
-        ensures requests { Requests F.failures F.may_leave F.allowed no_change folder.old folder.new }
-        ensures back { F.faithful folder.new → F.faithful folder.old }
+        ensures reads { OnlyReads F.device folder.old folder.new }
         ensures blame { Blames (λ at. IsTrue (is_among (entries_observed self.1) at))
-            (F.failures folder.old) (F.failures folder.new) result }
-        ensures same { F.faithful folder.new → F.contents folder.new ≡ F.contents folder.old }
+            (F.device.failures folder.old) (F.device.failures folder.new) result }
         ensures named { IfOk result (λ made. made.0.0 ≡ self.0) }
         ensures prints { IfOk result (λ made. made.1 ≡ (self.0, digests_of made.0.1)) }
         ensures paths { IfOk result
             (λ made. map (λ file. file.0) made.0.1 ≡ map (λ file. file.path) self.1) }
         // Over any folder: what calls returned before, and what calls return now for the rest.
-        ensures answered { (first : _) → Requests F.failures F.may_leave F.allowed no_change first folder.old
-            → WereObserved F.failures F.may_leave F.allowed first folder.old self.1
-            → IfOk result (λ made. IsTreeRead F.failures F.may_leave F.allowed first folder.new
+        ensures answered { (first : _) → Requests F.device no_change first folder.old
+            → WereObserved F.device first folder.old self.1
+            → IfOk result (λ made. IsTreeRead F.device first folder.new
             (entries_observed self.1) made.0.1) }
-        ensures tree { F.faithful folder.new → AllByRecursion (IsObservedIn (F.contents folder.old).files) self.1
+        ensures tree { F.device.faithful folder.new → AllByRecursion (IsObservedIn (F.device.contents folder.old).files) self.1
             → IfOk result
-            (λ made. made.0.1 ≡ contents_at (F.contents folder.old).files (entries_observed self.1)) }
-        ensures err { F.faithful folder.new → AllByRecursion (IsObservedIn (F.contents folder.old).files) self.1
-            → IfErr result (IsTreeFaultOfMachine (F.failures folder.old) (F.failures folder.new)) }
+            (λ made. made.0.1 ≡ contents_at (F.device.contents folder.old).files (entries_observed self.1)) }
+        ensures err { F.device.faithful folder.new → AllByRecursion (IsObservedIn (F.device.contents folder.old).files) self.1
+            → IfErr result (IsTreeFaultOfMachine (F.device.failures folder.old) (F.device.failures folder.new)) }
     {
         let Reading { name, files } = self;
         let (files, digests) = complete_all(alloc, folder, files)?;

@@ -5,7 +5,7 @@ ghost use Rattle.std.specs.List.Sorted.{IsStrictlySortedBy};
 ghost use Rattle.std.specs.FinMap.Entries.{is_sorted};
 ghost use Rattle.gb_core.specs.Place.{is_under};
 ghost use Rattle.gb_core.specs.Lists.{byte_order};
-ghost use Rattle.gb_folder.specs.Calls.{Requests, no_change};
+ghost use Rattle.gb_folder.specs.Calls.{OnlyReads, Requests, no_change};
 ghost use Rattle.gb_folder.specs.Files.{places_under};
 ghost use Rattle.gb_tree.specs.Tree.{Blames, IsRefused, entries_from, files_from, listing_faults};
 ghost use Rattle.gb_tree.specs.Tree.{output_entries, output_faults, output_listing_faults};
@@ -38,18 +38,16 @@ pub fn outputs<F: Folder>(
     name: &Name,
     place: &Place,
 ) -> Result<Snapshot, TreeFault>
-    ensures requests { Requests F.failures F.may_leave F.allowed no_change folder.old folder.new }
-    ensures back { F.faithful folder.new → F.faithful folder.old }
+    ensures reads { OnlyReads F.device folder.old folder.new }
     ensures blame { Blames (λ at. IsTrue (is_under at place.now))
-        (F.failures folder.old) (F.failures folder.new) result }
-    ensures same { F.faithful folder.new → F.contents folder.new ≡ F.contents folder.old }
-    ensures files { F.faithful folder.new → IfOk result
-        (λ snapshot. snapshot ≡ (name.now, files_from (F.contents folder.old).files place.now)) }
-    ensures fit { F.faithful folder.new → OnOk result
-        (output_faults name.now place.now (F.contents folder.old) ≡ []) }
-    ensures err { F.faithful folder.new → IfErr result (λ fault.
-        IsRefused (F.failures folder.old) (F.failures folder.new)
-        (output_faults name.now place.now (F.contents folder.old)) fault) }
+        (F.device.failures folder.old) (F.device.failures folder.new) result }
+    ensures files { F.device.faithful folder.new → IfOk result
+        (λ snapshot. snapshot ≡ (name.now, files_from (F.device.contents folder.old).files place.now)) }
+    ensures fit { F.device.faithful folder.new → OnOk result
+        (output_faults name.now place.now (F.device.contents folder.old) ≡ []) }
+    ensures err { F.device.faithful folder.new → IfErr result (λ fault.
+        IsRefused (F.device.failures folder.old) (F.device.failures folder.new)
+        (output_faults name.now place.now (F.device.contents folder.old)) fault) }
 {
     let entries = entries_at(alloc, folder, name, place)?;
     let files = read_all(alloc, folder, entries.as_slice())?;
@@ -64,19 +62,17 @@ pub fn output_prints<F: Folder>(
     name: &Name,
     place: &Place,
 ) -> Result<Prints, TreeFault>
-    ensures requests { Requests F.failures F.may_leave F.allowed no_change folder.old folder.new }
-    ensures back { F.faithful folder.new → F.faithful folder.old }
+    ensures reads { OnlyReads F.device folder.old folder.new }
     ensures blame { Blames (λ at. IsTrue (is_under at place.now))
-        (F.failures folder.old) (F.failures folder.new) result }
-    ensures same { F.faithful folder.new → F.contents folder.new ≡ F.contents folder.old }
+        (F.device.failures folder.old) (F.device.failures folder.new) result }
     ensures named { IfOk result (λ prints. prints.0 ≡ name.now) }
-    ensures prints { F.faithful folder.new → IfOk result
-        (λ prints. prints ≡ (name.now, digests_of (files_from (F.contents folder.old).files place.now))) }
-    ensures fit { F.faithful folder.new → OnOk result
-        (output_faults name.now place.now (F.contents folder.old) ≡ []) }
-    ensures err { F.faithful folder.new → IfErr result (λ fault.
-        IsRefused (F.failures folder.old) (F.failures folder.new)
-        (output_faults name.now place.now (F.contents folder.old)) fault) }
+    ensures prints { F.device.faithful folder.new → IfOk result
+        (λ prints. prints ≡ (name.now, digests_of (files_from (F.device.contents folder.old).files place.now))) }
+    ensures fit { F.device.faithful folder.new → OnOk result
+        (output_faults name.now place.now (F.device.contents folder.old) ≡ []) }
+    ensures err { F.device.faithful folder.new → IfErr result (λ fault.
+        IsRefused (F.device.failures folder.old) (F.device.failures folder.new)
+        (output_faults name.now place.now (F.device.contents folder.old)) fault) }
 {
     let entries = entries_at(alloc, folder, name, place)?;
     let digests = digest_all(alloc, folder, entries.as_slice())?;
@@ -95,36 +91,34 @@ pub fn output_reading<F: Folder>(
     seen: &Seen,
     room: &mut u64,
 ) -> Result<Reading, TreeFault>
-    ensures requests { Requests F.failures F.may_leave F.allowed no_change folder.old folder.new }
-    ensures back { F.faithful folder.new → F.faithful folder.old }
+    ensures reads { OnlyReads F.device folder.old folder.new }
     ensures blame { Blames (λ at. IsTrue (is_under at place.now))
-        (F.failures folder.old) (F.failures folder.new) result }
-    ensures same { F.faithful folder.new → F.contents folder.new ≡ F.contents folder.old }
+        (F.device.failures folder.old) (F.device.failures folder.new) result }
     ensures named { IfOk result (λ reading. reading.0 ≡ name.now) }
     ensures under { IfOk result
         (λ reading. AllByRecursion (λ observed. IsTrue (is_under observed.place place.now)) reading.1) }
     // Over any folder: the files are those that calls returned. If the seen digests are of bytes
     // read since a state `first`, with no change requested from there on, then so is each digest
     // here, and no other bytes are kept.
-    ensures listed { IfOk result (λ reading. AreOutputEntriesListed F.failures F.may_leave F.allowed
+    ensures listed { IfOk result (λ reading. AreOutputEntriesListed F.device
         folder.old folder.new place.now (entries_observed reading.1)) }
-    ensures answered { (first : _) → Requests F.failures F.may_leave F.allowed no_change first folder.old
-        → AreSeen F.failures F.may_leave F.allowed first folder.old seen.now
+    ensures answered { (first : _) → Requests F.device no_change first folder.old
+        → AreSeen F.device first folder.old seen.now
         → IfOk result
-        (λ reading. WereObserved F.failures F.may_leave F.allowed first folder.new reading.1) }
+        (λ reading. WereObserved F.device first folder.new reading.1) }
     // Where contents are known and the seen digests are those of the files there:
-    ensures digests { F.faithful folder.new → AreSeenIn (F.contents folder.old).files seen.now
+    ensures digests { F.device.faithful folder.new → AreSeenIn (F.device.contents folder.old).files seen.now
         → IfOk result (λ reading.
-        digests_observed reading.1 ≡ digests_of (files_from (F.contents folder.old).files place.now)) }
-    ensures observed { F.faithful folder.new → AreSeenIn (F.contents folder.old).files seen.now
-        → IfOk result (λ reading. AreObserved (F.contents folder.old).files
-        (output_entries (F.contents folder.old).files place.now) reading.1) }
-    ensures fit { F.faithful folder.new → AreSeenIn (F.contents folder.old).files seen.now → OnOk result
-        (output_faults name.now place.now (F.contents folder.old) ≡ []) }
-    ensures err { F.faithful folder.new → AreSeenIn (F.contents folder.old).files seen.now
+        digests_observed reading.1 ≡ digests_of (files_from (F.device.contents folder.old).files place.now)) }
+    ensures observed { F.device.faithful folder.new → AreSeenIn (F.device.contents folder.old).files seen.now
+        → IfOk result (λ reading. AreObserved (F.device.contents folder.old).files
+        (output_entries (F.device.contents folder.old).files place.now) reading.1) }
+    ensures fit { F.device.faithful folder.new → AreSeenIn (F.device.contents folder.old).files seen.now → OnOk result
+        (output_faults name.now place.now (F.device.contents folder.old) ≡ []) }
+    ensures err { F.device.faithful folder.new → AreSeenIn (F.device.contents folder.old).files seen.now
         → IfErr result (λ fault.
-        IsRefused (F.failures folder.old) (F.failures folder.new)
-        (output_faults name.now place.now (F.contents folder.old)) fault) }
+        IsRefused (F.device.failures folder.old) (F.device.failures folder.new)
+        (output_faults name.now place.now (F.device.contents folder.old)) fault) }
 {
     let free = *room;
     let first = read_output_once(alloc, folder, name, place, seen, room);
@@ -145,36 +139,34 @@ fn read_output_once<F: Folder>(
     seen: &Seen,
     room: &mut u64,
 ) -> Result<Reading, TreeFault>
-    ensures requests { Requests F.failures F.may_leave F.allowed no_change folder.old folder.new }
-    ensures back { F.faithful folder.new → F.faithful folder.old }
+    ensures reads { OnlyReads F.device folder.old folder.new }
     ensures blame { Blames (λ at. IsTrue (is_under at place.now))
-        (F.failures folder.old) (F.failures folder.new) result }
-    ensures same { F.faithful folder.new → F.contents folder.new ≡ F.contents folder.old }
+        (F.device.failures folder.old) (F.device.failures folder.new) result }
     ensures named { IfOk result (λ reading. reading.0 ≡ name.now) }
     ensures under { IfOk result
         (λ reading. AllByRecursion (λ observed. IsTrue (is_under observed.place place.now)) reading.1) }
     // Over any folder: the files are those that calls returned. If the seen digests are of bytes
     // read since a state `first`, with no change requested from there on, then so is each digest
     // here, and no other bytes are kept.
-    ensures listed { IfOk result (λ reading. AreOutputEntriesListed F.failures F.may_leave F.allowed
+    ensures listed { IfOk result (λ reading. AreOutputEntriesListed F.device
         folder.old folder.new place.now (entries_observed reading.1)) }
-    ensures answered { (first : _) → Requests F.failures F.may_leave F.allowed no_change first folder.old
-        → AreSeen F.failures F.may_leave F.allowed first folder.old seen.now
+    ensures answered { (first : _) → Requests F.device no_change first folder.old
+        → AreSeen F.device first folder.old seen.now
         → IfOk result
-        (λ reading. WereObserved F.failures F.may_leave F.allowed first folder.new reading.1) }
+        (λ reading. WereObserved F.device first folder.new reading.1) }
     // Where contents are known and the seen digests are those of the files there:
-    ensures digests { F.faithful folder.new → AreSeenIn (F.contents folder.old).files seen.now
+    ensures digests { F.device.faithful folder.new → AreSeenIn (F.device.contents folder.old).files seen.now
         → IfOk result (λ reading.
-        digests_observed reading.1 ≡ digests_of (files_from (F.contents folder.old).files place.now)) }
-    ensures observed { F.faithful folder.new → AreSeenIn (F.contents folder.old).files seen.now
-        → IfOk result (λ reading. AreObserved (F.contents folder.old).files
-        (output_entries (F.contents folder.old).files place.now) reading.1) }
-    ensures fit { F.faithful folder.new → AreSeenIn (F.contents folder.old).files seen.now → OnOk result
-        (output_faults name.now place.now (F.contents folder.old) ≡ []) }
-    ensures err { F.faithful folder.new → AreSeenIn (F.contents folder.old).files seen.now
+        digests_observed reading.1 ≡ digests_of (files_from (F.device.contents folder.old).files place.now)) }
+    ensures observed { F.device.faithful folder.new → AreSeenIn (F.device.contents folder.old).files seen.now
+        → IfOk result (λ reading. AreObserved (F.device.contents folder.old).files
+        (output_entries (F.device.contents folder.old).files place.now) reading.1) }
+    ensures fit { F.device.faithful folder.new → AreSeenIn (F.device.contents folder.old).files seen.now → OnOk result
+        (output_faults name.now place.now (F.device.contents folder.old) ≡ []) }
+    ensures err { F.device.faithful folder.new → AreSeenIn (F.device.contents folder.old).files seen.now
         → IfErr result (λ fault.
-        IsRefused (F.failures folder.old) (F.failures folder.new)
-        (output_faults name.now place.now (F.contents folder.old)) fault) }
+        IsRefused (F.device.failures folder.old) (F.device.failures folder.new)
+        (output_faults name.now place.now (F.device.contents folder.old)) fault) }
 {
     let entries = entries_at(alloc, folder, name, place)?;
     let observed = scan_all(alloc, folder, entries.as_slice(), seen, room)?;
@@ -188,23 +180,21 @@ fn entries_at<F: Folder>(
     name: &Name,
     place: &Place,
 ) -> Result<Vec<(RelPath, Place)>, TreeFault>
-    ensures requests { Requests F.failures F.may_leave F.allowed no_change folder.old folder.new }
-    ensures back { F.faithful folder.new → F.faithful folder.old }
+    ensures reads { OnlyReads F.device folder.old folder.new }
     ensures blame { Blames (λ at. IsTrue (is_under at place.now))
-        (F.failures folder.old) (F.failures folder.new) result }
+        (F.device.failures folder.old) (F.device.failures folder.new) result }
     ensures under { IfOk result
         (λ entries. AllByRecursion (λ entry. IsTrue (is_under entry.1 place.now)) entries.items) }
     ensures ordered { IfOk result (λ entries. IsTrue (is_sorted byte_order entries.items)) }
-    ensures same { F.faithful folder.new → F.contents folder.new ≡ F.contents folder.old }
-    ensures listed { IfOk result (λ entries. AreOutputEntriesListed F.failures F.may_leave F.allowed
+    ensures listed { IfOk result (λ entries. AreOutputEntriesListed F.device
         folder.old folder.new place.now entries.items) }
-    ensures entries { F.faithful folder.new → IfOk result
-        (λ entries. entries.items ≡ output_entries (F.contents folder.old).files place.now) }
-    ensures fit { F.faithful folder.new → OnOk result
-        (output_listing_faults name.now place.now (F.contents folder.old) ≡ []) }
-    ensures err { F.faithful folder.new → IfErr result (λ fault.
-        IsRefused (F.failures folder.old) (F.failures folder.new)
-        (output_listing_faults name.now place.now (F.contents folder.old)) fault) }
+    ensures entries { F.device.faithful folder.new → IfOk result
+        (λ entries. entries.items ≡ output_entries (F.device.contents folder.old).files place.now) }
+    ensures fit { F.device.faithful folder.new → OnOk result
+        (output_listing_faults name.now place.now (F.device.contents folder.old) ≡ []) }
+    ensures err { F.device.faithful folder.new → IfErr result (λ fault.
+        IsRefused (F.device.failures folder.old) (F.device.failures folder.new)
+        (output_listing_faults name.now place.now (F.device.contents folder.old)) fault) }
 {
     if is_own(place) {
         return Ok(Vec::new(alloc));
@@ -219,23 +209,21 @@ fn entries_beneath<F: Folder>(
     name: &Name,
     place: &Place,
 ) -> Result<Vec<(RelPath, Place)>, TreeFault>
-    ensures requests { Requests F.failures F.may_leave F.allowed no_change folder.old folder.new }
-    ensures back { F.faithful folder.new → F.faithful folder.old }
+    ensures reads { OnlyReads F.device folder.old folder.new }
     ensures blame { Blames (λ at. IsTrue (is_under at place.now))
-        (F.failures folder.old) (F.failures folder.new) result }
+        (F.device.failures folder.old) (F.device.failures folder.new) result }
     ensures under { IfOk result
         (λ entries. AllByRecursion (λ entry. IsTrue (is_under entry.1 place.now)) entries.items) }
     ensures ordered { IfOk result (λ entries. IsTrue (is_sorted byte_order entries.items)) }
-    ensures same { F.faithful folder.new → F.contents folder.new ≡ F.contents folder.old }
-    ensures listed { IfOk result (λ entries. AreOutputEntriesListed F.failures F.may_leave F.allowed
+    ensures listed { IfOk result (λ entries. AreOutputEntriesListed F.device
         folder.old folder.new place.now entries.items) }
-    ensures entries { F.faithful folder.new → IfOk result (λ entries.
-        entries.items ≡ entries_from place.now (places_under (F.contents folder.old).files place.now)) }
-    ensures fit { F.faithful folder.new → OnOk result
-        (listing_faults name.now place.now (F.contents folder.old) ≡ []) }
-    ensures err { F.faithful folder.new → IfErr result (λ fault.
-        IsRefused (F.failures folder.old) (F.failures folder.new)
-        (listing_faults name.now place.now (F.contents folder.old)) fault) }
+    ensures entries { F.device.faithful folder.new → IfOk result (λ entries.
+        entries.items ≡ entries_from place.now (places_under (F.device.contents folder.old).files place.now)) }
+    ensures fit { F.device.faithful folder.new → OnOk result
+        (listing_faults name.now place.now (F.device.contents folder.old) ≡ []) }
+    ensures err { F.device.faithful folder.new → IfErr result (λ fault.
+        IsRefused (F.device.failures folder.old) (F.device.failures folder.new)
+        (listing_faults name.now place.now (F.device.contents folder.old)) fault) }
 {
     let places = listed(alloc, folder, place)?;
     if places.len() > MAX_FILES {

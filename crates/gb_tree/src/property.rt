@@ -1,7 +1,7 @@
 //! The files of a file property.
 ghost use Rattle.std.specs.Prelude.{◌≡◌, [], IsTrue, IfOk, IfErr, OnOk};
 ghost use Rattle.std.specs.List.{AllByRecursion};
-ghost use Rattle.gb_folder.specs.Calls.{Requests, no_change};
+ghost use Rattle.gb_folder.specs.Calls.{OnlyReads, Requests, no_change};
 ghost use Rattle.gb_tree.specs.Tree.{Blames, IsRefused};
 ghost use Rattle.gb_tree.specs.Prints.{digests_of};
 ghost use Rattle.gb_tree.specs.Property.{entries_of, is_under_any, tree_faults, tree_of};
@@ -52,19 +52,17 @@ pub fn snapshot<F: Folder>(
     include: &[Pattern],
     exclude: &[Pattern],
 ) -> Result<Snapshot, TreeFault>
-    ensures requests { Requests F.failures F.may_leave F.allowed no_change folder.old folder.new }
-    ensures back { F.faithful folder.new → F.faithful folder.old }
+    ensures reads { OnlyReads F.device folder.old folder.new }
     ensures blame { Blames (λ at. IsTrue (is_under_any roots.now at))
-        (F.failures folder.old) (F.failures folder.new) result }
-    ensures same { F.faithful folder.new → F.contents folder.new ≡ F.contents folder.old }
-    ensures files { F.faithful folder.new → IfOk result
+        (F.device.failures folder.old) (F.device.failures folder.new) result }
+    ensures files { F.device.faithful folder.new → IfOk result
         (λ snapshot. snapshot
-        ≡ (name.now, tree_of naming roots.now include.now exclude.now (F.contents folder.old).files)) }
-    ensures fit { F.faithful folder.new → OnOk result
-        (tree_faults name.now naming roots.now include.now exclude.now (F.contents folder.old) ≡ []) }
-    ensures err { F.faithful folder.new → IfErr result (λ fault.
-        IsRefused (F.failures folder.old) (F.failures folder.new)
-        (tree_faults name.now naming roots.now include.now exclude.now (F.contents folder.old)) fault) }
+        ≡ (name.now, tree_of naming roots.now include.now exclude.now (F.device.contents folder.old).files)) }
+    ensures fit { F.device.faithful folder.new → OnOk result
+        (tree_faults name.now naming roots.now include.now exclude.now (F.device.contents folder.old) ≡ []) }
+    ensures err { F.device.faithful folder.new → IfErr result (λ fault.
+        IsRefused (F.device.failures folder.old) (F.device.failures folder.new)
+        (tree_faults name.now naming roots.now include.now exclude.now (F.device.contents folder.old)) fault) }
 {
     let entries = entries_of(alloc, folder, name, naming, roots, include, exclude)?;
     let files = read_all(alloc, folder, entries.as_slice())?;
@@ -82,23 +80,21 @@ pub fn prints_of<F: Folder>(
     include: &[Pattern],
     exclude: &[Pattern],
 ) -> Result<Prints, TreeFault>
-    ensures requests { Requests F.failures F.may_leave F.allowed no_change folder.old folder.new }
-    ensures back { F.faithful folder.new → F.faithful folder.old }
+    ensures reads { OnlyReads F.device folder.old folder.new }
     ensures blame { Blames (λ at. IsTrue (is_under_any roots.now at))
-        (F.failures folder.old) (F.failures folder.new) result }
-    ensures same { F.faithful folder.new → F.contents folder.new ≡ F.contents folder.old }
+        (F.device.failures folder.old) (F.device.failures folder.new) result }
     ensures named { IfOk result (λ prints. prints.0 ≡ name.now) }
-    ensures prints { F.faithful folder.new → IfOk result (λ prints. prints
+    ensures prints { F.device.faithful folder.new → IfOk result (λ prints. prints
         ≡ (
           name.now,
           digests_of
-              (tree_of naming roots.now include.now exclude.now (F.contents folder.old).files),
+              (tree_of naming roots.now include.now exclude.now (F.device.contents folder.old).files),
         )) }
-    ensures fit { F.faithful folder.new → OnOk result
-        (tree_faults name.now naming roots.now include.now exclude.now (F.contents folder.old) ≡ []) }
-    ensures err { F.faithful folder.new → IfErr result (λ fault.
-        IsRefused (F.failures folder.old) (F.failures folder.new)
-        (tree_faults name.now naming roots.now include.now exclude.now (F.contents folder.old)) fault) }
+    ensures fit { F.device.faithful folder.new → OnOk result
+        (tree_faults name.now naming roots.now include.now exclude.now (F.device.contents folder.old) ≡ []) }
+    ensures err { F.device.faithful folder.new → IfErr result (λ fault.
+        IsRefused (F.device.failures folder.old) (F.device.failures folder.new)
+        (tree_faults name.now naming roots.now include.now exclude.now (F.device.contents folder.old)) fault) }
 {
     let entries = entries_of(alloc, folder, name, naming, roots, include, exclude)?;
     let digests = digest_all(alloc, folder, entries.as_slice())?;
@@ -120,37 +116,35 @@ pub fn reading_of<F: Folder>(
     seen: &Seen,
     room: &mut u64,
 ) -> Result<Reading, TreeFault>
-    ensures requests { Requests F.failures F.may_leave F.allowed no_change folder.old folder.new }
-    ensures back { F.faithful folder.new → F.faithful folder.old }
+    ensures reads { OnlyReads F.device folder.old folder.new }
     ensures blame { Blames (λ at. IsTrue (is_under_any roots.now at))
-        (F.failures folder.old) (F.failures folder.new) result }
-    ensures same { F.faithful folder.new → F.contents folder.new ≡ F.contents folder.old }
+        (F.device.failures folder.old) (F.device.failures folder.new) result }
     ensures named { IfOk result (λ reading. reading.0 ≡ name.now) }
     ensures under { IfOk result
         (λ reading. AllByRecursion (λ observed. IsTrue (is_under_any roots.now observed.place)) reading.1) }
     // Over any folder: the entries are those of listings that calls returned. If the seen digests
     // are of bytes read since a state `first`, with no change requested from there on, then so is
     // each digest here, and no other bytes are kept.
-    ensures listed { IfOk result (λ reading. AreEntriesListed F.failures F.may_leave F.allowed naming
+    ensures listed { IfOk result (λ reading. AreEntriesListed F.device naming
         roots.now
         include.now exclude.now folder.old folder.new (entries_observed reading.1)) }
-    ensures answered { (first : _) → Requests F.failures F.may_leave F.allowed no_change first folder.old
-        → AreSeen F.failures F.may_leave F.allowed first folder.old seen.now
+    ensures answered { (first : _) → Requests F.device no_change first folder.old
+        → AreSeen F.device first folder.old seen.now
         → IfOk result
-        (λ reading. WereObserved F.failures F.may_leave F.allowed first folder.new reading.1) }
+        (λ reading. WereObserved F.device first folder.new reading.1) }
     // Where contents are known and the seen digests are those of the files there:
-    ensures digests { F.faithful folder.new → AreSeenIn (F.contents folder.old).files seen.now
+    ensures digests { F.device.faithful folder.new → AreSeenIn (F.device.contents folder.old).files seen.now
         → IfOk result (λ reading. digests_observed reading.1
-        ≡ digests_of (tree_of naming roots.now include.now exclude.now (F.contents folder.old).files)) }
-    ensures observed { F.faithful folder.new → AreSeenIn (F.contents folder.old).files seen.now
-        → IfOk result (λ reading. AreObserved (F.contents folder.old).files
-        (entries_of naming roots.now include.now exclude.now (F.contents folder.old).files) reading.1) }
-    ensures fit { F.faithful folder.new → AreSeenIn (F.contents folder.old).files seen.now → OnOk result
-        (tree_faults name.now naming roots.now include.now exclude.now (F.contents folder.old) ≡ []) }
-    ensures err { F.faithful folder.new → AreSeenIn (F.contents folder.old).files seen.now
+        ≡ digests_of (tree_of naming roots.now include.now exclude.now (F.device.contents folder.old).files)) }
+    ensures observed { F.device.faithful folder.new → AreSeenIn (F.device.contents folder.old).files seen.now
+        → IfOk result (λ reading. AreObserved (F.device.contents folder.old).files
+        (entries_of naming roots.now include.now exclude.now (F.device.contents folder.old).files) reading.1) }
+    ensures fit { F.device.faithful folder.new → AreSeenIn (F.device.contents folder.old).files seen.now → OnOk result
+        (tree_faults name.now naming roots.now include.now exclude.now (F.device.contents folder.old) ≡ []) }
+    ensures err { F.device.faithful folder.new → AreSeenIn (F.device.contents folder.old).files seen.now
         → IfErr result (λ fault.
-        IsRefused (F.failures folder.old) (F.failures folder.new)
-        (tree_faults name.now naming roots.now include.now exclude.now (F.contents folder.old)) fault) }
+        IsRefused (F.device.failures folder.old) (F.device.failures folder.new)
+        (tree_faults name.now naming roots.now include.now exclude.now (F.device.contents folder.old)) fault) }
 {
     let free = *room;
     let first = read_once(
@@ -178,37 +172,35 @@ fn read_once<F: Folder>(
     seen: &Seen,
     room: &mut u64,
 ) -> Result<Reading, TreeFault>
-    ensures requests { Requests F.failures F.may_leave F.allowed no_change folder.old folder.new }
-    ensures back { F.faithful folder.new → F.faithful folder.old }
+    ensures reads { OnlyReads F.device folder.old folder.new }
     ensures blame { Blames (λ at. IsTrue (is_under_any roots.now at))
-        (F.failures folder.old) (F.failures folder.new) result }
-    ensures same { F.faithful folder.new → F.contents folder.new ≡ F.contents folder.old }
+        (F.device.failures folder.old) (F.device.failures folder.new) result }
     ensures named { IfOk result (λ reading. reading.0 ≡ name.now) }
     ensures under { IfOk result
         (λ reading. AllByRecursion (λ observed. IsTrue (is_under_any roots.now observed.place)) reading.1) }
     // Over any folder: the entries are those of listings that calls returned. If the seen digests
     // are of bytes read since a state `first`, with no change requested from there on, then so is
     // each digest here, and no other bytes are kept.
-    ensures listed { IfOk result (λ reading. AreEntriesListed F.failures F.may_leave F.allowed naming
+    ensures listed { IfOk result (λ reading. AreEntriesListed F.device naming
         roots.now
         include.now exclude.now folder.old folder.new (entries_observed reading.1)) }
-    ensures answered { (first : _) → Requests F.failures F.may_leave F.allowed no_change first folder.old
-        → AreSeen F.failures F.may_leave F.allowed first folder.old seen.now
+    ensures answered { (first : _) → Requests F.device no_change first folder.old
+        → AreSeen F.device first folder.old seen.now
         → IfOk result
-        (λ reading. WereObserved F.failures F.may_leave F.allowed first folder.new reading.1) }
+        (λ reading. WereObserved F.device first folder.new reading.1) }
     // Where contents are known and the seen digests are those of the files there:
-    ensures digests { F.faithful folder.new → AreSeenIn (F.contents folder.old).files seen.now
+    ensures digests { F.device.faithful folder.new → AreSeenIn (F.device.contents folder.old).files seen.now
         → IfOk result (λ reading. digests_observed reading.1
-        ≡ digests_of (tree_of naming roots.now include.now exclude.now (F.contents folder.old).files)) }
-    ensures observed { F.faithful folder.new → AreSeenIn (F.contents folder.old).files seen.now
-        → IfOk result (λ reading. AreObserved (F.contents folder.old).files
-        (entries_of naming roots.now include.now exclude.now (F.contents folder.old).files) reading.1) }
-    ensures fit { F.faithful folder.new → AreSeenIn (F.contents folder.old).files seen.now → OnOk result
-        (tree_faults name.now naming roots.now include.now exclude.now (F.contents folder.old) ≡ []) }
-    ensures err { F.faithful folder.new → AreSeenIn (F.contents folder.old).files seen.now
+        ≡ digests_of (tree_of naming roots.now include.now exclude.now (F.device.contents folder.old).files)) }
+    ensures observed { F.device.faithful folder.new → AreSeenIn (F.device.contents folder.old).files seen.now
+        → IfOk result (λ reading. AreObserved (F.device.contents folder.old).files
+        (entries_of naming roots.now include.now exclude.now (F.device.contents folder.old).files) reading.1) }
+    ensures fit { F.device.faithful folder.new → AreSeenIn (F.device.contents folder.old).files seen.now → OnOk result
+        (tree_faults name.now naming roots.now include.now exclude.now (F.device.contents folder.old) ≡ []) }
+    ensures err { F.device.faithful folder.new → AreSeenIn (F.device.contents folder.old).files seen.now
         → IfErr result (λ fault.
-        IsRefused (F.failures folder.old) (F.failures folder.new)
-        (tree_faults name.now naming roots.now include.now exclude.now (F.contents folder.old)) fault) }
+        IsRefused (F.device.failures folder.old) (F.device.failures folder.new)
+        (tree_faults name.now naming roots.now include.now exclude.now (F.device.contents folder.old)) fault) }
 {
     let entries = entries_of(alloc, folder, name, naming, roots, include, exclude)?;
     let observed = scan_all(alloc, folder, entries.as_slice(), seen, room)?;

@@ -7,7 +7,7 @@ ghost use Rattle.std.specs.FinMap.Entries.{is_sorted};
 ghost use Rattle.gb_core.specs.Place.{is_under};
 ghost use Rattle.gb_core.specs.Lists.{byte_order};
 ghost use Rattle.gb_folder.specs.Answers.{WereListed, WereRead};
-ghost use Rattle.gb_folder.specs.Calls.{Requests, no_change};
+ghost use Rattle.gb_folder.specs.Calls.{OnlyReads};
 ghost use Rattle.gb_folder.specs.Files.{file_at, is_special_under, places_under};
 ghost use Rattle.gb_tree.specs.Tree.{Blames, IsRefused, IsTreeFaultOfMachine, bytes_at, contents_at};
 ghost use Rattle.gb_tree.specs.Tree.{is_among, is_large, too_large};
@@ -35,22 +35,20 @@ pub(crate) fn listed<F: Folder>(
     folder: &mut F,
     place: &Place,
 ) -> Result<Vec<Place>, TreeFault>
-    ensures requests { Requests F.failures F.may_leave F.allowed no_change folder.old folder.new }
-    ensures back { F.faithful folder.new → F.faithful folder.old }
+    ensures reads { OnlyReads F.device folder.old folder.new }
     ensures blame { Blames (λ at. at ≡ place.now)
-        (F.failures folder.old) (F.failures folder.new) result }
+        (F.device.failures folder.old) (F.device.failures folder.new) result }
     ensures under { IfOk result (λ places. AllPass (λ at. is_under at place.now) places.items) }
     ensures ordered { IfOk result (λ places. IsStrictlySortedBy byte_order places.items) }
-    ensures same { F.faithful folder.new → F.contents folder.new ≡ F.contents folder.old }
-    ensures answered { IfOk result (λ places. WereListed F.failures F.may_leave F.allowed
+    ensures answered { IfOk result (λ places. WereListed F.device
         folder.old folder.new place.now places.items) }
-    ensures listed { F.faithful folder.new → IfOk result
-        (λ places. places.items ≡ places_under (F.contents folder.old).files place.now) }
-    ensures none_special { F.faithful folder.new → OnOk result
-        (is_special_under (F.contents folder.old) place.now ≡ false) }
-    ensures special { F.faithful folder.new → IfErr result
-        (λ fault. IsTreeFaultOfMachine (F.failures folder.old) (F.failures folder.new) fault
-        ⊎ (IsTrue (is_special_under (F.contents folder.old) place.now)
+    ensures listed { F.device.faithful folder.new → IfOk result
+        (λ places. places.items ≡ places_under (F.device.contents folder.old).files place.now) }
+    ensures none_special { F.device.faithful folder.new → OnOk result
+        (is_special_under (F.device.contents folder.old) place.now ≡ false) }
+    ensures special { F.device.faithful folder.new → IfErr result
+        (λ fault. IsTreeFaultOfMachine (F.device.failures folder.old) (F.device.failures folder.new) fault
+        ⊎ (IsTrue (is_special_under (F.device.contents folder.old) place.now)
         × (fault ≡ TreeFault.BadFileName place.now))) }
 {
     folder
@@ -64,22 +62,20 @@ pub(crate) fn read_file<F: Folder>(
     folder: &mut F,
     place: &Place,
 ) -> Result<Bytes, TreeFault>
-    ensures requests { Requests F.failures F.may_leave F.allowed no_change folder.old folder.new }
-    ensures back { F.faithful folder.new → F.faithful folder.old }
+    ensures reads { OnlyReads F.device folder.old folder.new }
     ensures blame { Blames (λ at. at ≡ place.now)
-        (F.failures folder.old) (F.failures folder.new) result }
-    ensures same { F.faithful folder.new → F.contents folder.new ≡ F.contents folder.old }
-    ensures answered { IfOk result (λ bytes. WereRead F.failures F.may_leave F.allowed
+        (F.device.failures folder.old) (F.device.failures folder.new) result }
+    ensures answered { IfOk result (λ bytes. WereRead F.device
         folder.old folder.new place.now bytes) }
-    ensures read { F.faithful folder.new → IfOk result
-        (λ bytes. bytes ≡ bytes_at (F.contents folder.old).files place.now) }
-    ensures exists { F.faithful folder.new → OnOk result
-        (IsSome (file_at (F.contents folder.old).files place.now)) }
-    ensures small { F.faithful folder.new → OnOk result
-        (is_large (F.contents folder.old).files place.now ≡ false) }
-    ensures err { F.faithful folder.new → IsSome (file_at (F.contents folder.old).files place.now)
-        → IfErr result (λ fault. IsTreeFaultOfMachine (F.failures folder.old) (F.failures folder.new) fault
-        ⊎ ((is_large (F.contents folder.old).files place.now ≡ true)
+    ensures read { F.device.faithful folder.new → IfOk result
+        (λ bytes. bytes ≡ bytes_at (F.device.contents folder.old).files place.now) }
+    ensures exists { F.device.faithful folder.new → OnOk result
+        (IsSome (file_at (F.device.contents folder.old).files place.now)) }
+    ensures small { F.device.faithful folder.new → OnOk result
+        (is_large (F.device.contents folder.old).files place.now ≡ false) }
+    ensures err { F.device.faithful folder.new → IsSome (file_at (F.device.contents folder.old).files place.now)
+        → IfErr result (λ fault. IsTreeFaultOfMachine (F.device.failures folder.old) (F.device.failures folder.new) fault
+        ⊎ ((is_large (F.device.contents folder.old).files place.now ≡ true)
         × (fault ≡ TreeFault.TooLarge place.now))) }
 {
     match folder.read(alloc, place, MAX_FILE) {
@@ -95,20 +91,18 @@ pub(crate) fn read_all<F: Folder>(
     entries: &[(RelPath, Place)],
 ) -> Result<Files, TreeFault>
     requires { IsTrue (is_sorted byte_order entries.now) }
-    ensures requests { Requests F.failures F.may_leave F.allowed no_change folder.old folder.new }
-    ensures back { F.faithful folder.new → F.faithful folder.old }
+    ensures reads { OnlyReads F.device folder.old folder.new }
     ensures blame { Blames (λ at. IsTrue (is_among entries.now at))
-        (F.failures folder.old) (F.failures folder.new) result }
-    ensures same { F.faithful folder.new → F.contents folder.new ≡ F.contents folder.old }
-    ensures read { F.faithful folder.new → IfOk result
-        (λ files. files ≡ contents_at (F.contents folder.old).files entries.now) }
-    ensures small { F.faithful folder.new → OnOk result
-        (too_large (F.contents folder.old).files entries.now ≡ []) }
-    ensures err { F.faithful folder.new
-        → AllByRecursion (λ entry. IsSome (file_at (F.contents folder.old).files entry.1)) entries.now
+        (F.device.failures folder.old) (F.device.failures folder.new) result }
+    ensures read { F.device.faithful folder.new → IfOk result
+        (λ files. files ≡ contents_at (F.device.contents folder.old).files entries.now) }
+    ensures small { F.device.faithful folder.new → OnOk result
+        (too_large (F.device.contents folder.old).files entries.now ≡ []) }
+    ensures err { F.device.faithful folder.new
+        → AllByRecursion (λ entry. IsSome (file_at (F.device.contents folder.old).files entry.1)) entries.now
         → IfErr result (λ fault.
-        IsRefused (F.failures folder.old) (F.failures folder.new)
-        (too_large (F.contents folder.old).files entries.now) fault) }
+        IsRefused (F.device.failures folder.old) (F.device.failures folder.new)
+        (too_large (F.device.contents folder.old).files entries.now) fault) }
 {
     let mut files = Files::new(alloc);
     for (path, place) in entries.iter() {
@@ -126,18 +120,16 @@ pub(crate) fn read_piece<F: Folder>(
     at: u64,
     len: u64,
 ) -> Result<Vec<u8>, TreeFault>
-    ensures requests { Requests F.failures F.may_leave F.allowed no_change folder.old folder.new }
-    ensures back { F.faithful folder.new → F.faithful folder.old }
+    ensures reads { OnlyReads F.device folder.old folder.new }
     ensures blame { Blames (λ at. at ≡ place.now)
-        (F.failures folder.old) (F.failures folder.new) result }
-    ensures same { F.faithful folder.new → F.contents folder.new ≡ F.contents folder.old }
+        (F.device.failures folder.old) (F.device.failures folder.new) result }
     ensures within { IfOk result (λ piece. length piece.items ≤ len) }
-    ensures read { F.faithful folder.new → IfOk result
-        (λ piece. piece.items ≡ take len (drop at (bytes_at (F.contents folder.old).files place.now))) }
-    ensures exists { F.faithful folder.new → OnOk result
-        (IsSome (file_at (F.contents folder.old).files place.now)) }
-    ensures err { F.faithful folder.new → IsSome (file_at (F.contents folder.old).files place.now)
-        → IfErr result (λ fault. IsTreeFaultOfMachine (F.failures folder.old) (F.failures folder.new) fault) }
+    ensures read { F.device.faithful folder.new → IfOk result
+        (λ piece. piece.items ≡ take len (drop at (bytes_at (F.device.contents folder.old).files place.now))) }
+    ensures exists { F.device.faithful folder.new → OnOk result
+        (IsSome (file_at (F.device.contents folder.old).files place.now)) }
+    ensures err { F.device.faithful folder.new → IsSome (file_at (F.device.contents folder.old).files place.now)
+        → IfErr result (λ fault. IsTreeFaultOfMachine (F.device.failures folder.old) (F.device.failures folder.new) fault) }
 {
     match folder.read_part(alloc, place, at, len) {
         Ok(piece) => Ok(piece),
@@ -151,18 +143,16 @@ fn digest_file<F: Folder>(
     folder: &mut F,
     place: &Place,
 ) -> Result<[u8; 32], TreeFault>
-    ensures requests { Requests F.failures F.may_leave F.allowed no_change folder.old folder.new }
-    ensures back { F.faithful folder.new → F.faithful folder.old }
+    ensures reads { OnlyReads F.device folder.old folder.new }
     ensures blame { Blames (λ at. at ≡ place.now)
-        (F.failures folder.old) (F.failures folder.new) result }
-    ensures same { F.faithful folder.new → F.contents folder.new ≡ F.contents folder.old }
-    ensures digest { F.faithful folder.new → IfOk result
-        (λ digest. digest ≡ sha256 (bytes_at (F.contents folder.old).files place.now)) }
-    ensures small { F.faithful folder.new → OnOk result
-        (is_large (F.contents folder.old).files place.now ≡ false) }
-    ensures err { F.faithful folder.new → IsSome (file_at (F.contents folder.old).files place.now)
-        → IfErr result (λ fault. IsTreeFaultOfMachine (F.failures folder.old) (F.failures folder.new) fault
-        ⊎ ((is_large (F.contents folder.old).files place.now ≡ true)
+        (F.device.failures folder.old) (F.device.failures folder.new) result }
+    ensures digest { F.device.faithful folder.new → IfOk result
+        (λ digest. digest ≡ sha256 (bytes_at (F.device.contents folder.old).files place.now)) }
+    ensures small { F.device.faithful folder.new → OnOk result
+        (is_large (F.device.contents folder.old).files place.now ≡ false) }
+    ensures err { F.device.faithful folder.new → IsSome (file_at (F.device.contents folder.old).files place.now)
+        → IfErr result (λ fault. IsTreeFaultOfMachine (F.device.failures folder.old) (F.device.failures folder.new) fault
+        ⊎ ((is_large (F.device.contents folder.old).files place.now ≡ true)
         × (fault ≡ TreeFault.TooLarge place.now))) }
 {
     let mut hasher = Sha256::new();
@@ -188,21 +178,19 @@ pub(crate) fn digest_all<F: Folder>(
     entries: &[(RelPath, Place)],
 ) -> Result<Vec<(RelPath, [u8; 32])>, TreeFault>
     requires { IsTrue (is_sorted byte_order entries.now) }
-    ensures requests { Requests F.failures F.may_leave F.allowed no_change folder.old folder.new }
-    ensures back { F.faithful folder.new → F.faithful folder.old }
+    ensures reads { OnlyReads F.device folder.old folder.new }
     ensures blame { Blames (λ at. IsTrue (is_among entries.now at))
-        (F.failures folder.old) (F.failures folder.new) result }
-    ensures same { F.faithful folder.new → F.contents folder.new ≡ F.contents folder.old }
+        (F.device.failures folder.old) (F.device.failures folder.new) result }
     ensures ordered { IfOk result (λ digests. IsTrue (is_sorted byte_order digests.items)) }
-    ensures digests { F.faithful folder.new → IfOk result
-        (λ digests. digests.items ≡ digests_of (contents_at (F.contents folder.old).files entries.now)) }
-    ensures small { F.faithful folder.new → OnOk result
-        (too_large (F.contents folder.old).files entries.now ≡ []) }
-    ensures err { F.faithful folder.new
-        → AllByRecursion (λ entry. IsSome (file_at (F.contents folder.old).files entry.1)) entries.now
+    ensures digests { F.device.faithful folder.new → IfOk result
+        (λ digests. digests.items ≡ digests_of (contents_at (F.device.contents folder.old).files entries.now)) }
+    ensures small { F.device.faithful folder.new → OnOk result
+        (too_large (F.device.contents folder.old).files entries.now ≡ []) }
+    ensures err { F.device.faithful folder.new
+        → AllByRecursion (λ entry. IsSome (file_at (F.device.contents folder.old).files entry.1)) entries.now
         → IfErr result (λ fault.
-        IsRefused (F.failures folder.old) (F.failures folder.new)
-        (too_large (F.contents folder.old).files entries.now) fault) }
+        IsRefused (F.device.failures folder.old) (F.device.failures folder.new)
+        (too_large (F.device.contents folder.old).files entries.now) fault) }
 {
     let mut digests = Vec::with_capacity(alloc, entries.len())?;
     for (path, place) in entries.iter() {

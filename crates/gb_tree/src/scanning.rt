@@ -7,7 +7,7 @@ ghost use Rattle.std.specs.List.{AllByRecursion};
 ghost use Rattle.std.specs.FinMap.Entries.{is_sorted};
 ghost use Rattle.gb_core.specs.Lists.{byte_order};
 ghost use Rattle.gb_folder.specs.Answers.{WereRead};
-ghost use Rattle.gb_folder.specs.Calls.{Requests, no_change};
+ghost use Rattle.gb_folder.specs.Calls.{OnlyReads, Requests, no_change};
 ghost use Rattle.gb_folder.specs.Files.{file_at};
 ghost use Rattle.gb_tree.specs.Tree.{Blames, IsRefused, IsTreeFaultOfMachine, bytes_at, is_among, is_large};
 ghost use Rattle.gb_tree.specs.Tree.{too_large};
@@ -68,26 +68,24 @@ fn scan_bytes<F: Folder>(
     place: &Place,
     room: &mut u64,
 ) -> Result<Content, TreeFault>
-    ensures requests { Requests F.failures F.may_leave F.allowed no_change folder.old folder.new }
-    ensures back { F.faithful folder.new → F.faithful folder.old }
+    ensures reads { OnlyReads F.device folder.old folder.new }
     ensures blame { Blames (λ at. at ≡ place.now)
-        (F.failures folder.old) (F.failures folder.new) result }
-    ensures same { F.faithful folder.new → F.contents folder.new ≡ F.contents folder.old }
+        (F.device.failures folder.old) (F.device.failures folder.new) result }
     ensures digested { IfOk result (λ found. IsTrue (is_digest_of (kept_in found) (digest_in found))) }
     ensures answered { IfOk result (λ found. (bytes : List ℕ)
-        × WereRead F.failures F.may_leave F.allowed folder.old folder.new place.now bytes
+        × WereRead F.device folder.old folder.new place.now bytes
         × (digest_in found ≡ sha256 bytes) × KeepsOnly bytes (kept_in found)) }
-    ensures digest { F.faithful folder.new → IfOk result
-        (λ found. digest_in found ≡ sha256 (bytes_at (F.contents folder.old).files place.now)) }
-    ensures kept { F.faithful folder.new → IfOk result
-        (λ found. KeepsOnly (bytes_at (F.contents folder.old).files place.now) (kept_in found)) }
-    ensures exists { F.faithful folder.new → OnOk result
-        (IsSome (file_at (F.contents folder.old).files place.now)) }
-    ensures small { F.faithful folder.new → OnOk result
-        (is_large (F.contents folder.old).files place.now ≡ false) }
-    ensures err { F.faithful folder.new → IsSome (file_at (F.contents folder.old).files place.now)
-        → IfErr result (λ fault. IsTreeFaultOfMachine (F.failures folder.old) (F.failures folder.new) fault
-        ⊎ ((is_large (F.contents folder.old).files place.now ≡ true)
+    ensures digest { F.device.faithful folder.new → IfOk result
+        (λ found. digest_in found ≡ sha256 (bytes_at (F.device.contents folder.old).files place.now)) }
+    ensures kept { F.device.faithful folder.new → IfOk result
+        (λ found. KeepsOnly (bytes_at (F.device.contents folder.old).files place.now) (kept_in found)) }
+    ensures exists { F.device.faithful folder.new → OnOk result
+        (IsSome (file_at (F.device.contents folder.old).files place.now)) }
+    ensures small { F.device.faithful folder.new → OnOk result
+        (is_large (F.device.contents folder.old).files place.now ≡ false) }
+    ensures err { F.device.faithful folder.new → IsSome (file_at (F.device.contents folder.old).files place.now)
+        → IfErr result (λ fault. IsTreeFaultOfMachine (F.device.failures folder.old) (F.device.failures folder.new) fault
+        ⊎ ((is_large (F.device.contents folder.old).files place.now ≡ true)
         × (fault ≡ TreeFault.TooLarge place.now))) }
 {
     let bytes = read_file(alloc, folder, place)?;
@@ -108,22 +106,20 @@ pub(crate) fn scan_file<F: Folder>(
     place: &Place,
     room: &mut u64,
 ) -> Result<Found, TreeFault>
-    ensures requests { Requests F.failures F.may_leave F.allowed no_change folder.old folder.new }
-    ensures back { F.faithful folder.new → F.faithful folder.old }
+    ensures reads { OnlyReads F.device folder.old folder.new }
     ensures blame { Blames (λ at. at ≡ place.now)
-        (F.failures folder.old) (F.failures folder.new) result }
-    ensures same { F.faithful folder.new → F.contents folder.new ≡ F.contents folder.old }
+        (F.device.failures folder.old) (F.device.failures folder.new) result }
     ensures path { IfOk result (λ found. (file_in found).path ≡ path.now) }
     ensures place { IfOk result (λ found. (file_in found).place ≡ place.now) }
     ensures digested { IfOk result
         (λ found. IsTrue (is_digest_of (file_in found).kept (file_in found).digest)) }
     ensures answered { IfOk result
-        (λ found. WasObserved F.failures F.may_leave F.allowed folder.old folder.new (file_in found)) }
-    ensures observed { F.faithful folder.new → IfOk result
-        (λ found. IsObservedIn (F.contents folder.old).files (file_in found)) }
-    ensures err { F.faithful folder.new → IsSome (file_at (F.contents folder.old).files place.now)
-        → IfErr result (λ fault. IsTreeFaultOfMachine (F.failures folder.old) (F.failures folder.new) fault
-        ⊎ ((is_large (F.contents folder.old).files place.now ≡ true)
+        (λ found. WasObserved F.device folder.old folder.new (file_in found)) }
+    ensures observed { F.device.faithful folder.new → IfOk result
+        (λ found. IsObservedIn (F.device.contents folder.old).files (file_in found)) }
+    ensures err { F.device.faithful folder.new → IsSome (file_at (F.device.contents folder.old).files place.now)
+        → IfErr result (λ fault. IsTreeFaultOfMachine (F.device.failures folder.old) (F.device.failures folder.new) fault
+        ⊎ ((is_large (F.device.contents folder.old).files place.now ≡ true)
         × (fault ≡ TreeFault.TooLarge place.now))) }
 {
     let content = scan_bytes(alloc, folder, place, room)?;
@@ -167,24 +163,22 @@ fn find_file<F: Folder>(
     seen: &Seen,
     room: &mut u64,
 ) -> Result<Found, TreeFault>
-    ensures requests { Requests F.failures F.may_leave F.allowed no_change folder.old folder.new }
-    ensures back { F.faithful folder.new → F.faithful folder.old }
+    ensures reads { OnlyReads F.device folder.old folder.new }
     ensures blame { Blames (λ at. at ≡ place.now)
-        (F.failures folder.old) (F.failures folder.new) result }
-    ensures same { F.faithful folder.new → F.contents folder.new ≡ F.contents folder.old }
+        (F.device.failures folder.old) (F.device.failures folder.new) result }
     ensures path { IfOk result (λ found. (file_in found).path ≡ path.now) }
     ensures place { IfOk result (λ found. (file_in found).place ≡ place.now) }
     ensures digested { IfOk result
         (λ found. IsTrue (is_digest_of (file_in found).kept (file_in found).digest)) }
-    ensures answered { (first : _) → Requests F.failures F.may_leave F.allowed no_change first folder.old
-        → AreSeen F.failures F.may_leave F.allowed first folder.old seen.now
+    ensures answered { (first : _) → Requests F.device no_change first folder.old
+        → AreSeen F.device first folder.old seen.now
         → IfOk result
-        (λ found. WasObserved F.failures F.may_leave F.allowed first folder.new (file_in found)) }
-    ensures observed { F.faithful folder.new → AreSeenIn (F.contents folder.old).files seen.now → IfOk result
-        (λ found. IsObservedIn (F.contents folder.old).files (file_in found)) }
-    ensures err { F.faithful folder.new → IsSome (file_at (F.contents folder.old).files place.now)
-        → IfErr result (λ fault. IsTreeFaultOfMachine (F.failures folder.old) (F.failures folder.new) fault
-        ⊎ ((is_large (F.contents folder.old).files place.now ≡ true)
+        (λ found. WasObserved F.device first folder.new (file_in found)) }
+    ensures observed { F.device.faithful folder.new → AreSeenIn (F.device.contents folder.old).files seen.now → IfOk result
+        (λ found. IsObservedIn (F.device.contents folder.old).files (file_in found)) }
+    ensures err { F.device.faithful folder.new → IsSome (file_at (F.device.contents folder.old).files place.now)
+        → IfErr result (λ fault. IsTreeFaultOfMachine (F.device.failures folder.old) (F.device.failures folder.new) fault
+        ⊎ ((is_large (F.device.contents folder.old).files place.now ≡ true)
         × (fault ≡ TreeFault.TooLarge place.now))) }
 {
     match seen.digest_at(place) {
@@ -203,26 +197,24 @@ pub(crate) fn scan_all<F: Folder>(
     room: &mut u64,
 ) -> Result<Vec<ScannedFile>, TreeFault>
     requires { IsTrue (is_sorted byte_order entries.now) }
-    ensures requests { Requests F.failures F.may_leave F.allowed no_change folder.old folder.new }
-    ensures back { F.faithful folder.new → F.faithful folder.old }
+    ensures reads { OnlyReads F.device folder.old folder.new }
     ensures blame { Blames (λ at. IsTrue (is_among entries.now at))
-        (F.failures folder.old) (F.failures folder.new) result }
-    ensures same { F.faithful folder.new → F.contents folder.new ≡ F.contents folder.old }
+        (F.device.failures folder.old) (F.device.failures folder.new) result }
     ensures placed { IfOk result (λ observed. entries_observed observed.items ≡ entries.now) }
     ensures reading { IfOk result (λ observed. IsReading observed.items) }
-    ensures answered { (first : _) → Requests F.failures F.may_leave F.allowed no_change first folder.old
-        → AreSeen F.failures F.may_leave F.allowed first folder.old seen.now
+    ensures answered { (first : _) → Requests F.device no_change first folder.old
+        → AreSeen F.device first folder.old seen.now
         → IfOk result
-        (λ observed. WereObserved F.failures F.may_leave F.allowed first folder.new observed.items) }
-    ensures observed { F.faithful folder.new → AreSeenIn (F.contents folder.old).files seen.now → IfOk result
-        (λ observed. AllByRecursion (IsObservedIn (F.contents folder.old).files) observed.items) }
-    ensures small { F.faithful folder.new → AreSeenIn (F.contents folder.old).files seen.now → OnOk result
-        (too_large (F.contents folder.old).files entries.now ≡ []) }
-    ensures err { F.faithful folder.new → AreSeenIn (F.contents folder.old).files seen.now
-        → AllByRecursion (λ entry. IsSome (file_at (F.contents folder.old).files entry.1)) entries.now
+        (λ observed. WereObserved F.device first folder.new observed.items) }
+    ensures observed { F.device.faithful folder.new → AreSeenIn (F.device.contents folder.old).files seen.now → IfOk result
+        (λ observed. AllByRecursion (IsObservedIn (F.device.contents folder.old).files) observed.items) }
+    ensures small { F.device.faithful folder.new → AreSeenIn (F.device.contents folder.old).files seen.now → OnOk result
+        (too_large (F.device.contents folder.old).files entries.now ≡ []) }
+    ensures err { F.device.faithful folder.new → AreSeenIn (F.device.contents folder.old).files seen.now
+        → AllByRecursion (λ entry. IsSome (file_at (F.device.contents folder.old).files entry.1)) entries.now
         → IfErr result (λ fault.
-        IsRefused (F.failures folder.old) (F.failures folder.new)
-        (too_large (F.contents folder.old).files entries.now) fault) }
+        IsRefused (F.device.failures folder.old) (F.device.failures folder.new)
+        (too_large (F.device.contents folder.old).files entries.now) fault) }
 {
     let mut observed = Vec::with_capacity(alloc, entries.len())?;
     let mut waiting = Waiting::Nothing;

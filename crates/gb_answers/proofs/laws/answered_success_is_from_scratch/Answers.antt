@@ -8,5 +8,5 @@ returns g c =
     let F = g.F.Folder in
     let meanings = g.A.Actions.meanings in
     let rows = c.args.tables.now.actions in
-    built F.failures F.may_leave F.allowed (tables_of g.T.Transforms.meanings meanings c.args.tables.now)
-    (λ leaves Shows are kinds agrees options plan. step F.failures F.may_leave F.allowed leaves Shows are meanings rows kinds agrees g.A.Actions.own_output options plan)
+    built F.device (tables_of g.T.Transforms.meanings meanings c.args.tables.now)
+    (λ leaves Shows are kinds agrees options plan. step F.device leaves Shows are meanings rows kinds agrees g.A.Actions.own_output options plan)

@@ -6,4 +6,4 @@ pub returns : goal.returns
 returns g c =
     let F = g.F.Folder in
     let meanings = g.A.Actions.meanings in
-    records_stay_true F.failures F.may_leave F.allowed (tables_of g.T.Transforms.meanings meanings c.args.tables.now) g.A.Actions.own_output
+    records_stay_true F.device (tables_of g.T.Transforms.meanings meanings c.args.tables.now) g.A.Actions.own_output

@@ -15,9 +15,9 @@ returns g c =
     record {
       from_scratch =
           subst (λ inner. IfOk c.invoke-answer.result
-          (λ report. LeavesFromScratch tables (F.may_leave inner) c.args.invocation.now report (log after)))
+          (λ report. LeavesFromScratch tables (F.device.may_leave inner) c.args.invocation.now report (log after)))
           c.new-folder.ensures.inner
-          (leaves_from_scratch _ _ _ tables log c.logged_folders_keep_calls.ensures
+          (leaves_from_scratch _ tables log c.logged_folders_keep_calls.ensures
           c.answered_success_is_from_scratch.ensures c.args.invocation.now c.invoke-answer.result
           c.new-folder.result after (ap log_of c.new-folder.ensures.calls) c.invoke-answer.ensures.does.requests);
       logged = λ kinds. (

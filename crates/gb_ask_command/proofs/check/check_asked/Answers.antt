@@ -24,13 +24,13 @@ returns-in-Ok-clause-reply g c =
     let F = g.F.Folder in
     let M = g.A.Actions.meanings in
     let source = c.in-Ok.configured.registry in
-    let old : Contents = F.contents c.args.folder.now in
-    let mid : Contents = F.contents c.read_registry.new.folder in
-    let before = F.failures c.args.folder.now in
-    let between = F.failures c.read_registry.new.folder in
-    let after = F.failures c.check_configured-found.new.folder in
-    let known = F.faithful c.check_configured-found.new.folder in
-    let back = c.check_configured-found.ensures.back in
+    let old : Contents = F.device.contents c.args.folder.now in
+    let mid : Contents = F.device.contents c.read_registry.new.folder in
+    let before = F.device.failures c.args.folder.now in
+    let between = F.device.failures c.read_registry.new.folder in
+    let after = F.device.failures c.check_configured-found.new.folder in
+    let known = F.device.faithful c.check_configured-found.new.folder in
+    let back = c.check_configured-found.ensures.reads.requests.back in
     let tables = tables_of g.T.Transforms.meanings M c.args.tables.now in
     let given = c.args.invocation.now.properties in
     let said : known → FolderSays tables old.files given (Ok source) =
@@ -43,7 +43,7 @@ returns-in-Ok-clause-reply g c =
     let Replied : Findings → Type 0 = λ found. IsChecked tables known c.args.invocation.now old found ⊎ IsFoundAt tables known old.files found in
     match_of c.check_configured-found.result (AreFindingsOf tables known source mid) Replied known Bad Worse
     (λ findings are.
-    let here : AreFindingsOf tables known source old findings = found_in_same tables known old mid (λ faithful. c.read_registry.ensures.same (back faithful)) source findings are in
+    let here : AreFindingsOf tables known source old findings = found_in_same tables known old mid (λ faithful. c.read_registry.ensures.reads.same (back faithful)) source findings are in
     inl (record {
       source = source;
       said = said;
@@ -52,8 +52,8 @@ returns-in-Ok-clause-reply g c =
     }))
     (λ fault faithful bad.
     elim bad as (λ _. Worse fault) [
-      | inl machine ↦ inl (machine_before before between after fault c.read_registry.ensures.requests.count c.check_configured-found.ensures.requests.count machine)
-      | inr unread ↦ absurd (none_again tables old.files given source unread.0 fault (said faithful) unread.1 (subst (λ (contents : Contents). IsUnread contents.files unread.0 fault) (c.read_registry.ensures.same (back faithful)) unread.2))
+      | inl machine ↦ inl (machine_before before between after fault c.read_registry.ensures.reads.requests.count c.check_configured-found.ensures.reads.requests.count machine)
+      | inr unread ↦ absurd (none_again tables old.files given source unread.0 fault (said faithful) unread.1 (subst (λ (contents : Contents). IsUnread contents.files unread.0 fault) (c.read_registry.ensures.reads.same (back faithful)) unread.2))
     ])
     found
     c.check_configured-found.ensures.err
@@ -61,13 +61,13 @@ returns-in-Ok-clause-reply g c =
 pub returns-in-Err-clause-reply : goal.returns-in-Err-clause-reply
 returns-in-Err-clause-reply g c =
     let F = g.F.Folder in
-    let old : Contents = F.contents c.args.folder.now in
-    let mid : Contents = F.contents c.read_registry.new.folder in
-    let before = F.failures c.args.folder.now in
-    let between = F.failures c.read_registry.new.folder in
-    let after = F.failures c.check_statements.new.folder in
-    let known = F.faithful c.check_statements.new.folder in
-    let back = c.check_statements.ensures.back in
+    let old : Contents = F.device.contents c.args.folder.now in
+    let mid : Contents = F.device.contents c.read_registry.new.folder in
+    let before = F.device.failures c.args.folder.now in
+    let between = F.device.failures c.read_registry.new.folder in
+    let after = F.device.failures c.check_statements.new.folder in
+    let known = F.device.faithful c.check_statements.new.folder in
+    let back = c.check_statements.ensures.reads.requests.back in
     let tables = tables_of g.T.Transforms.meanings g.A.Actions.meanings c.args.tables.now in
     let given = c.args.invocation.now.properties in
     let refused = c.in-Err.fault in
@@ -77,15 +77,15 @@ returns-in-Err-clause-reply g c =
     let Told : Fault → Type 0 = λ fault. IsOfMachine between after fault ⊎ (IsTextFault mid.files fault ⊎ Faultless fault) in
     let Worse : Fault → Type 0 = λ fault. IsOfMachine before after fault ⊎ IsTextFault old.files fault in
     match_of c.check_statements.result (IsFoundAt tables known mid.files) Replied known Told Worse
-    (λ found is. inr (found_at_same tables known old.files mid.files (λ faithful. ap (λ (contents : Contents). contents.files) (c.read_registry.ensures.same (back faithful))) found is))
+    (λ found is. inr (found_at_same tables known old.files mid.files (λ faithful. ap (λ (contents : Contents). contents.files) (c.read_registry.ensures.reads.same (back faithful))) found is))
     (λ fault faithful told.
-    let same_files : mid.files ≡ old.files = ap (λ (contents : Contents). contents.files) (c.read_registry.ensures.same (back faithful)) in
+    let same_files : mid.files ≡ old.files = ap (λ (contents : Contents). contents.files) (c.read_registry.ensures.reads.same (back faithful)) in
     elim told as (λ _. Worse fault) [
-      | inl machine ↦ inl (machine_before before between after fault c.read_registry.ensures.requests.count c.check_statements.ensures.requests.count machine)
+      | inl machine ↦ inl (machine_before before between after fault c.read_registry.ensures.reads.requests.count c.check_statements.ensures.reads.requests.count machine)
       | inr (inl text) ↦ inr (subst (λ (files : Files). IsTextFault files fault) same_files text)
       | inr (inr (is, faultless)) ↦ subst Worse (sym is)
           (elim (subst (λ values. Refused values refused) (c.into_vec-given.ensures ∙ c.in_ok-copied.ensures) (c.in-Err.ensures.said (back faithful))) as (λ _. Worse refused) [
-            | inl machine ↦ inl (machine_after before between after refused c.check_statements.ensures.requests.count machine)
+            | inl machine ↦ inl (machine_after before between after refused c.check_statements.ensures.reads.requests.count machine)
             | inr says ↦ inr (of_texts tables old.files given refused (subst (λ (files : Files). IsFaultless tables files) same_files faultless) says)
           ])
     ])

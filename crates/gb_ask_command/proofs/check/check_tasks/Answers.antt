@@ -23,12 +23,12 @@ find-found-requires g c =
 pub returns-clause-found : goal.returns-clause-found
 returns-clause-found g c =
     let F = g.F.Folder in
-    let known = F.faithful c.find-found.new.folder in
+    let known = F.device.faithful c.find-found.new.folder in
     let source : Source = c.args.configured.now.registry in
     let tables = tables_of g.T.Transforms.meanings g.A.Actions.meanings c.args.configured.now.tables.now in
     let declared = registry_in g.T.Transforms.meanings g.A.Actions.meanings c.in_ok-tasks.tasks.workspace in
     let same : declared ≡ registry_said tables source = c.in_ok-tasks.ensures.registry in
-    let Found : Names → Registry → Type 0 = λ names registry. IfOk c.find-found.result (AreFindings tables names known (F.contents c.args.folder.now) registry (scripts_in c.args.scripts.now)) in
+    let Found : Names → Registry → Type 0 = λ names registry. IfOk c.find-found.result (AreFindings tables names known (F.device.contents c.args.folder.now) registry (scripts_in c.args.scripts.now)) in
     let named : (projects tasks : List Path) → Names = λ projects tasks. record { projects = projects; tasks = tasks } in
     subst (λ (registry : Registry). Found source.names registry) same
     (subst (λ (tasks : List Path). Found (named source.names.projects tasks) declared) (c.paths.ensures ∙ c.tasks.ensures.tasks)

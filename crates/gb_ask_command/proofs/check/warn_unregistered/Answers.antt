@@ -15,7 +15,7 @@ returns-clause-found g c =
     let F = g.F.Folder in
     let source : Source = c.args.configured.now.registry in
     let tables = tables_of g.T.Transforms.meanings g.A.Actions.meanings c.args.configured.now.tables.now in
-    let contents = F.contents c.args.folder.now in
+    let contents = F.device.contents c.args.folder.now in
     let left = c.in_ok-left.left.items in
     let names : c.as_slice.result.now ≡ paths_of (registry_said tables source) =
     c.as_slice.ensures.value ∙ c.in_ok-names.ensures ∙ sym c.tasks-registered.ensures.tasks ∙ c.tasks-registered.ensures.registered ∙ sym (paths_said tables source) in

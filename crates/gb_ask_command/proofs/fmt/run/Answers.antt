@@ -1,6 +1,5 @@
 use Rattle.std.proofs.Common.{◌++◌, length, map, string_bytes, sym, ◌∙◌}
-use Rattle.gb_folder.specs.Device.{device_of}
-use Rattle.gb_folder.proofs.Leading.{requests_of, leads_as}
+use Rattle.gb_folder.proofs.Leading.{requests_of}
 use Rattle.gb_printer.proofs.Printed.{all_printed, prints_more}
 use Rattle.gb_run.proofs.Ran.{known_before}
 use Rattle.gb_ask_command.specs.Fmt.{end_text, is_headed, may_write}
@@ -10,21 +9,13 @@ use Rattle.gb_ask_command.proofs.fmt.run.Goals as goal
 pub returns-then-is_whole-clause-requests : goal.returns-then-is_whole-clause-requests
 returns-then-is_whole-clause-requests g c =
     let F = g.F.Folder in
-    let device = device_of F.failures F.may_leave F.allowed F.faithful F.contents in
+    let device = F.device in
     let all = c.treat_all-ended.ensures in
     let mode = c.args.mode in
     let names = c.args.names.now in
     requests_of device (may_write mode (map string_bytes names)) c.args.folder.now c.treat_all-ended.new.folder all.0
     (all_may mode (is_headed mode (length names)) c.args.input.now names all.0 all.1 c.treat_all-ended.result all.3)
-    (leads_as F.device device g.met.F.Folder.said c.args.folder.now c.treat_all-ended.new.folder all.0 all.2)
-
-pub returns-then-is_whole-clause-back : goal.returns-then-is_whole-clause-back
-returns-then-is_whole-clause-back g c =
-    let F = g.F.Folder in
-    let device = device_of F.failures F.may_leave F.allowed F.faithful F.contents in
-    let all = c.treat_all-ended.ensures in
-    known_before device c.args.folder.now c.treat_all-ended.new.folder all.0
-    (leads_as F.device device g.met.F.Folder.said c.args.folder.now c.treat_all-ended.new.folder all.0 all.2)
+    all.2
 
 pub returns-then-is_whole-clause-treated : goal.returns-then-is_whole-clause-treated
 returns-then-is_whole-clause-treated g c =
@@ -45,21 +36,13 @@ returns-then-is_whole-clause-treated g c =
 pub returns-else-is_whole-clause-requests : goal.returns-else-is_whole-clause-requests
 returns-else-is_whole-clause-requests g c =
     let F = g.F.Folder in
-    let device = device_of F.failures F.may_leave F.allowed F.faithful F.contents in
+    let device = F.device in
     let all = c.treat_all-ended.ensures in
     let mode = c.args.mode in
     let names = c.args.names.now in
     requests_of device (may_write mode (map string_bytes names)) c.args.folder.now c.treat_all-ended.new.folder all.0
     (all_may mode (is_headed mode (length names)) c.args.input.now names all.0 all.1 c.treat_all-ended.result all.3)
-    (leads_as F.device device g.met.F.Folder.said c.args.folder.now c.treat_all-ended.new.folder all.0 all.2)
-
-pub returns-else-is_whole-clause-back : goal.returns-else-is_whole-clause-back
-returns-else-is_whole-clause-back g c =
-    let F = g.F.Folder in
-    let device = device_of F.failures F.may_leave F.allowed F.faithful F.contents in
-    let all = c.treat_all-ended.ensures in
-    known_before device c.args.folder.now c.treat_all-ended.new.folder all.0
-    (leads_as F.device device g.met.F.Folder.said c.args.folder.now c.treat_all-ended.new.folder all.0 all.2)
+    all.2
 
 pub returns-else-is_whole-clause-treated : goal.returns-else-is_whole-clause-treated
 returns-else-is_whole-clause-treated g c =

@@ -18,9 +18,9 @@ returns-in-Ok-clause-reply g c =
     let style = c.args.style in
     let predicted = c.args.predicted.now in
     let source = c.in-Ok.configured.registry in
-    let old : Shown = shows (F.contents c.args.folder.now) (F.failures c.args.folder.now) in
+    let old : Shown = shows (F.device.contents c.args.folder.now) (F.device.failures c.args.folder.now) in
     let result = c.draw_registered.result in
-    of_drawing (tables_of g.T.Transforms.meanings M c.args.tables.now) (F.faithful c.read_asked.new.folder) old (F.failures c.read_asked.new.folder) invocation
+    of_drawing (tables_of g.T.Transforms.meanings M c.args.tables.now) (F.device.faithful c.read_asked.new.folder) old (F.device.failures c.read_asked.new.folder) invocation
     style predicted source c.in-Ok.ensures.read result
     (subst (λ (given : handed.Tables _ _ _ _ _ _ _). IfOk result (λ text. IsDrawing style predicted (registry_said (tables_of g.T.Transforms.meanings M given) source) invocation.requested invocation.excluded (string_bytes text))) c.in-Ok.ensures.tables c.draw_registered.ensures.drawing)
     (subst (λ (given : handed.Tables _ _ _ _ _ _ _). IfErr result (IsRefusalOf (registry_said (tables_of g.T.Transforms.meanings M given) source) invocation.requested invocation.excluded)) c.in-Ok.ensures.tables c.draw_registered.ensures.fault)

@@ -10,18 +10,18 @@ pub returns-clause-reply : goal.returns-clause-reply
 returns-clause-reply g c =
     let F = g.F.Folder in
     let tables = tables_of g.T.Transforms.meanings g.A.Actions.meanings c.args.tables.now in
-    let old : Shown = shows (F.contents c.args.folder.now) (F.failures c.args.folder.now) in
-    let shown : Shown = shows (F.contents c.predicted-predicted.new.folder) (F.failures c.predicted-predicted.new.folder) in
-    let known = F.faithful c.draw.new.folder in
-    let back = c.draw.ensures.back in
+    let old : Shown = shows (F.device.contents c.args.folder.now) (F.device.failures c.args.folder.now) in
+    let shown : Shown = shows (F.device.contents c.predicted-predicted.new.folder) (F.device.failures c.predicted-predicted.new.folder) in
+    let known = F.device.faithful c.draw.new.folder in
+    let back = c.draw.ensures.reads.requests.back in
     record {
       shown = shown;
-      same = λ faithful. c.predicted-predicted.ensures.same (back faithful);
+      same = λ faithful. c.predicted-predicted.ensures.reads.same (back faithful);
       predicted = c.predicted-predicted.result.items;
       are_predicted =
-          predicted_before tables (F.faithful c.predicted-predicted.new.folder) known back old shown.failures c.args.invocation.now c.args.colouring c.predicted-predicted.result.items
+          predicted_before tables (F.device.faithful c.predicted-predicted.new.folder) known back old shown.failures c.args.invocation.now c.args.colouring c.predicted-predicted.result.items
           c.predicted-predicted.ensures.predicted;
       reply_is =
-          subst (λ (predicted : List Prediction). IsGraphReply tables known shown (F.failures c.draw.new.folder) c.args.style predicted c.args.invocation.now c.draw.result)
+          subst (λ (predicted : List Prediction). IsGraphReply tables known shown (F.device.failures c.draw.new.folder) c.args.style predicted c.args.invocation.now c.draw.result)
           c.as_slice.ensures.value c.draw.ensures.reply;
     }

@@ -18,9 +18,9 @@ returns-in-Ok-clause-reply g c =
     let relation = c.args.relation in
     let place = c.args.place.now in
     let source = c.in-Ok.configured.registry in
-    let old : Shown = shows (F.contents c.args.folder.now) (F.failures c.args.folder.now) in
+    let old : Shown = shows (F.device.contents c.args.folder.now) (F.device.failures c.args.folder.now) in
     let result = c.search_registered.result in
-    of_text (tables_of g.T.Transforms.meanings M c.args.tables.now) (F.faithful c.read_asked.new.folder) old (F.failures c.read_asked.new.folder) c.args.invocation.now
+    of_text (tables_of g.T.Transforms.meanings M c.args.tables.now) (F.device.faithful c.read_asked.new.folder) old (F.device.failures c.read_asked.new.folder) c.args.invocation.now
     (λ registry text. IsFoundText notation relation (found_in relation place registry) text) source c.in-Ok.ensures.read result
     (subst (λ (given : handed.Tables _ _ _ _ _ _ _). IfOk result (λ text. IsFoundText notation relation (found_in relation place (registry_said (tables_of g.T.Transforms.meanings M given) source)) (string_bytes text))) c.in-Ok.ensures.tables c.search_registered.ensures.text)
     c.search_registered.ensures.fault

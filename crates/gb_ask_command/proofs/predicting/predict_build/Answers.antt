@@ -15,19 +15,19 @@ pub returns-in_err-copied-clause-answer : goal.returns-in_err-copied-clause-answ
 returns-in_err-copied-clause-answer g c =
     let F = g.F.Folder in
     let tables = tables_of g.T.Transforms.meanings g.A.Actions.meanings c.args.tables.now in
-    let old : Shown = shows (F.contents c.args.folder.now) (F.failures c.args.folder.now) in
+    let old : Shown = shows (F.device.contents c.args.folder.now) (F.device.failures c.args.folder.now) in
     let p = err_from_is_err_and c.from_residual.result c.from_residual.ensures.1 in
-    subst (λ (r : Answer). IsAnswerTo tables (F.faithful c.args.folder.now) c.args.invocation.now old r old.failures) (sym p.1) (λ faithful. inr (inr (inl p.2)))
+    subst (λ (r : Answer). IsAnswerTo tables (F.device.faithful c.args.folder.now) c.args.invocation.now old r old.failures) (sym p.1) (λ faithful. inr (inr (inl p.2)))
 
 pub returns-in_err-configured-clause-answer : goal.returns-in_err-configured-clause-answer
 returns-in_err-configured-clause-answer g c =
     let F = g.F.Folder in
     let tables = tables_of g.T.Transforms.meanings g.A.Actions.meanings c.args.tables.now in
-    let old : Shown = shows (F.contents c.args.folder.now) (F.failures c.args.folder.now) in
-    let after = F.failures c.read_registry.new.folder in
+    let old : Shown = shows (F.device.contents c.args.folder.now) (F.device.failures c.args.folder.now) in
+    let after = F.device.failures c.read_registry.new.folder in
     let residual = c.from_residual-in_err-configured in
     let p = err_from_is_err_and residual.result residual.ensures.1 in
-    subst (λ (r : Answer). IsAnswerTo tables (F.faithful c.read_registry.new.folder) c.args.invocation.now old r after) (sym p.1)
+    subst (λ (r : Answer). IsAnswerTo tables (F.device.faithful c.read_registry.new.folder) c.args.invocation.now old r after) (sym p.1)
     (λ faithful. not_read tables old.contents (in_earnest c.args.invocation.now) c.into_vec-given.result.items (c.into_vec-given.ensures ∙ c.in_ok-copied.ensures)
     c.read_registry.result c.in_err-configured.field-0.0 p.0 old.failures after c.in_err-configured.was p.2 c.read_registry.ensures.blamed (c.in_err-configured.ensures.said faithful)
     old refl refl)
@@ -38,18 +38,18 @@ returns-clause-answer g c =
     let M = g.A.Actions.meanings in
     let invocation = c.args.invocation.now in
     let source = c.in_ok-configured.configured.registry in
-    let old : Contents = F.contents c.args.folder.now in
-    let mid : Contents = F.contents c.read_registry.new.folder in
-    let later = F.failures c.read_registry.new.folder in
-    let after = F.failures c.predict_registered-answer.new.folder in
+    let old : Contents = F.device.contents c.args.folder.now in
+    let mid : Contents = F.device.contents c.read_registry.new.folder in
+    let later = F.device.failures c.read_registry.new.folder in
+    let after = F.device.failures c.predict_registered-answer.new.folder in
     let result : Answer = c.predict_registered-answer.result in
-    let known = F.faithful c.predict_registered-answer.new.folder in
-    let back = c.predict_registered-answer.ensures.back in
+    let known = F.device.faithful c.predict_registered-answer.new.folder in
+    let back = c.predict_registered-answer.ensures.reads.requests.back in
     let same = c.in_ok-configured.ensures.tables in
     let registry_by : handed.Tables _ _ _ _ _ _ _ → Registry = λ given. registry_said (tables_of g.T.Transforms.meanings M given) source in
     let tables = tables_of g.T.Transforms.meanings M c.args.tables.now in
-    answers_it tables known invocation old mid (F.failures c.args.folder.now) later after
-    (λ faithful. c.read_registry.ensures.same (back faithful)) c.read_registry.ensures.requests.count c.predict_registered-answer.ensures.requests.count (registry_said tables source)
+    answers_it tables known invocation old mid (F.device.failures c.args.folder.now) later after
+    (λ faithful. c.read_registry.ensures.reads.same (back faithful)) c.read_registry.ensures.reads.requests.count c.predict_registered-answer.ensures.reads.requests.count (registry_said tables source)
     (λ faithful. registered tables old c.into_vec-given.result.items invocation.properties (c.into_vec-given.ensures ∙ c.in_ok-copied.ensures) source (c.in_ok-configured.ensures.said (back faithful)))
     result
     (subst (λ given. IfOk result (λ reported. IsRegistry (registry_by given))) same c.predict_registered-answer.ensures.sound)

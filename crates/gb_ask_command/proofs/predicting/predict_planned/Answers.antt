@@ -20,7 +20,7 @@ use Rattle.gb_ask_command.proofs.predicting.predict_planned.Goals as goal
 
 pub returns-in_err-records-clause-unread : goal.returns-in_err-records-clause-unread
 returns-in_err-records-clause-unread g c =
-    let failures = g.F.Folder.failures in
+    let failures = g.F.Folder.device.failures in
     let residual = c.from_residual-in_err-records in
     let p = err_from_is_err_and residual.result residual.ensures.1 in
     subst (λ (r : Answer). IfErr r (IsUnread false (failures c.args.folder.now) (failures c.read_records.new.folder))) (sym p.1)
@@ -37,7 +37,7 @@ pub predict-requires-clause-each : goal.predict-requires-clause-each
 predict-requires-clause-each g c =
     let F = g.F.Folder in
     ap length c.as_slice-2.ensures.value
-    ∙ as_long (WasAnswered F.failures F.may_leave F.allowed c.args.folder.now c.read_records.new.folder) c.as_slice.result.now c.in_ok-records.records.items c.in_ok-records.ensures.answered
+    ∙ as_long (WasAnswered F.device c.args.folder.now c.read_records.new.folder) c.as_slice.result.now c.in_ok-records.records.items c.in_ok-records.ensures.answered
     ∙ ap length (c.as_slice.ensures.value ∙ c.in_ok-paths.ensures)
     ∙ length-map c.args.plan.now (λ (planned : Planned). planned.task.path)
 
@@ -46,12 +46,12 @@ returns-clause-reported g c =
     let F = g.F.Folder in
     let plan = c.args.plan.now in
     let reported = c.in_ok-reported.reported.items in
-    let old : Contents = F.contents c.args.folder.now in
+    let old : Contents = F.device.contents c.args.folder.now in
     let records : List (Option Record) = c.as_slice-2.result.now in
-    let before = F.failures c.args.folder.now in
-    let later = F.failures c.read_records.new.folder in
-    let after = F.failures c.predict.new.folder in
-    let back = c.predict.ensures.back in
+    let before = F.device.failures c.args.folder.now in
+    let later = F.device.failures c.read_records.new.folder in
+    let after = F.device.failures c.predict.new.folder in
+    let back = c.predict.ensures.reads.requests.back in
     record {
       paths = c.in_ok-reported.ensures.paths;
       reasoned = c.in_ok-reported.ensures.reasoned;
@@ -62,7 +62,7 @@ returns-clause-reported g c =
             subst (λ (read : List (Option Record)). AllZip (IsReadAt old.files) (order plan) read) (sym c.as_slice-2.ensures.value)
             (subst (λ (paths : List Path). AllZip (IsReadAt old.files) paths c.in_ok-records.records.items) (c.as_slice.ensures.value ∙ c.in_ok-paths.ensures) (c.in_ok-records.ensures.read (back faithful)));
         prediction = λ kinds agrees.
-            prediction_since kinds c.args.options old before later after c.read_records.ensures.requests.count c.predict.ensures.requests.count plan records reported
-            (subst (λ (folder : Contents). ArePredictedOf kinds c.args.options folder later after plan records reported) (c.read_records.ensures.same (back faithful)) (c.in_ok-reported.ensures.prediction faithful kinds agrees));
+            prediction_since kinds c.args.options old before later after c.read_records.ensures.reads.requests.count c.predict.ensures.reads.requests.count plan records reported
+            (subst (λ (folder : Contents). ArePredictedOf kinds c.args.options folder later after plan records reported) (c.read_records.ensures.reads.same (back faithful)) (c.in_ok-reported.ensures.prediction faithful kinds agrees));
       };
     }

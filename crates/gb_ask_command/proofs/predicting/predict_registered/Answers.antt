@@ -15,7 +15,7 @@ use Rattle.gb_ask_command.proofs.predicting.predict_registered.Goals as goal
 
 pub returns-in_err-tasks-clause-not_reported : goal.returns-in_err-tasks-clause-not_reported
 returns-in_err-tasks-clause-not_reported g c =
-    let failures = g.F.Folder.failures c.args.folder.now in
+    let failures = g.F.Folder.device.failures c.args.folder.now in
     let tables = tables_of g.T.Transforms.meanings g.A.Actions.meanings c.args.configured.now.tables.now in
     let p = err_from_is_err_and c.from_residual.result c.from_residual.ensures.1 in
     subst (λ (r : Answer). IfErr r (IsNotReported (registry_said tables c.args.configured.now.registry) c.args.invocation.now.requested c.args.invocation.now.excluded failures failures)) (sym p.1)
@@ -37,15 +37,15 @@ returns-clause-sound g c =
 pub returns-clause-reported : goal.returns-clause-reported
 returns-clause-reported g c =
     let F = g.F.Folder in
-    let known = F.faithful c.predict_requested.new.folder in
+    let known = F.device.faithful c.predict_requested.new.folder in
     let meanings = g.A.Actions.meanings in
     let rows = c.args.configured.now.tables.now.actions in
     let invocation = c.args.invocation.now in
     let tables = tables_of g.T.Transforms.meanings meanings c.args.configured.now.tables.now in
     let declared = registry_in g.T.Transforms.meanings meanings c.in_ok-tasks.tasks.workspace in
     let same : declared ≡ registry_said tables c.args.configured.now.registry = c.in_ok-tasks.ensures.registry in
-    let old : Shown = shows (F.contents c.args.folder.now) (F.failures c.args.folder.now) in
-    let after = F.failures c.predict_requested.new.folder in
+    let old : Shown = shows (F.device.contents c.args.folder.now) (F.device.failures c.args.folder.now) in
+    let after = F.device.failures c.predict_requested.new.folder in
     let result : Answer = c.predict_requested.result in
     subst (λ (registry : Registry). IfOk result (λ reported. AreReportedOf known meanings rows registry invocation.requested invocation.excluded invocation.options old after reported.items)) same
     (subst (λ (words : List Text). IfOk result (λ reported. AreReportedOf known meanings rows declared invocation.requested words invocation.options old after reported.items)) c.as_slice-excluded.ensures
@@ -59,8 +59,8 @@ returns-clause-not_reported g c =
     let tables = tables_of g.T.Transforms.meanings g.A.Actions.meanings c.args.configured.now.tables.now in
     let declared = registry_in g.T.Transforms.meanings g.A.Actions.meanings c.in_ok-tasks.tasks.workspace in
     let same : declared ≡ registry_said tables c.args.configured.now.registry = c.in_ok-tasks.ensures.registry in
-    let before = F.failures c.args.folder.now in
-    let after = F.failures c.predict_requested.new.folder in
+    let before = F.device.failures c.args.folder.now in
+    let after = F.device.failures c.predict_requested.new.folder in
     let result : Answer = c.predict_requested.result in
     subst (λ (registry : Registry). IfErr result (IsNotReported registry invocation.requested invocation.excluded before after)) same
     (subst (λ (words : List Text). IfErr result (IsNotReported declared invocation.requested words before after)) c.as_slice-excluded.ensures

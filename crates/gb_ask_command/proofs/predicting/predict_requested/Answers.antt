@@ -16,7 +16,7 @@ use Rattle.gb_project.proofs.BeginLemmas.{ok_if}
 pub returns-in_err-plan-clause-not_reported : goal.returns-in_err-plan-clause-not_reported
 returns-in_err-plan-clause-not_reported g c =
     let registry = g.Ts.Tasks.registry c.args.tasks.now in
-    let failures = g.F.Folder.failures c.args.folder.now in
+    let failures = g.F.Folder.device.failures c.args.folder.now in
     let p = err_from_is_err_and c.from_residual.result c.from_residual.ensures.1 in
     subst (λ (r : Answer). IfErr r (IsNotReported registry c.args.requested.now c.args.excluded.now failures failures)) (sym p.1)
     (inl (subst (IsRefusalOf registry c.args.requested.now c.args.excluded.now) (sym p.2) c.in_err-plan.ensures.fault))
@@ -29,10 +29,10 @@ predict_planned-requires g c =
 pub returns-clause-reported : goal.returns-clause-reported
 returns-clause-reported g c =
     let F = g.F.Folder in
-    let known = F.faithful c.predict_planned.new.folder in
+    let known = F.device.faithful c.predict_planned.new.folder in
     let meanings = g.A.Actions.meanings in
-    let old : Shown = shows (F.contents c.args.folder.now) (F.failures c.args.folder.now) in
-    let after = F.failures c.predict_planned.new.folder in
+    let old : Shown = shows (F.device.contents c.args.folder.now) (F.device.failures c.args.folder.now) in
+    let after = F.device.failures c.predict_planned.new.folder in
     ok_if (λ reported. AreReported known meanings c.args.table.now c.args.options old after c.as_slice.result.now reported.items)
     (λ reported. AreReportedOf known meanings c.args.table.now (g.Ts.Tasks.registry c.args.tasks.now) c.args.requested.now c.args.excluded.now c.args.options old after reported.items)
     (λ reported is. (
@@ -45,7 +45,7 @@ returns-clause-reported g c =
 pub returns-clause-not_reported : goal.returns-clause-not_reported
 returns-clause-not_reported g c =
     let F = g.F.Folder in
-    let before = F.failures c.args.folder.now in
-    let after = F.failures c.predict_planned.new.folder in
+    let before = F.device.failures c.args.folder.now in
+    let after = F.device.failures c.predict_planned.new.folder in
     err_more (IsUnread false before after) (IsNotReported (g.Ts.Tasks.registry c.args.tasks.now) c.args.requested.now c.args.excluded.now before after)
     (λ fault why. inr why) c.predict_planned.result c.predict_planned.ensures.unread

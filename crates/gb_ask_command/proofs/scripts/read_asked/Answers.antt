@@ -11,10 +11,10 @@ pub returns-in-Ok-clause-read : goal.returns-in-Ok-clause-read
 returns-in-Ok-clause-read g c =
     let F = g.F.Folder in
     let tables = tables_of g.T.Transforms.meanings g.A.Actions.meanings c.args.tables.now in
-    let files = (F.contents c.args.folder.now).files in
-    let before = F.failures c.args.folder.now in
-    let after = F.failures c.read_registry.new.folder in
+    let files = (F.device.contents c.args.folder.now).files in
+    let before = F.device.failures c.args.folder.now in
+    let after = F.device.failures c.read_registry.new.folder in
     let given = c.args.invocation.now.properties in
-    where_known (F.faithful c.read_registry.new.folder) (λ configured. FolderSays tables files given (Ok configured.registry)) (λ fault. IsOfMachine before after fault ⊎ FolderSays tables files given (Err fault)) c.read_registry.result
+    where_known (F.device.faithful c.read_registry.new.folder) (λ configured. FolderSays tables files given (Ok configured.registry)) (λ fault. IsOfMachine before after fault ⊎ FolderSays tables files given (Err fault)) c.read_registry.result
     (λ faithful. subst (λ (values : List (Text × Text)). MatchResult c.read_registry.result (λ configured. FolderSays tables files values (Ok configured.registry)) (λ fault. IsOfMachine before after fault ⊎ FolderSays tables files values (Err fault)))
     (c.into_vec-given.ensures ∙ c.in-Ok.ensures) (c.read_registry.ensures.said faithful))

@@ -18,13 +18,13 @@ returns-in-Ok-clause-reply g c =
     let notation = c.args.notation in
     let activity = c.args.activity in
     let source = c.in-Ok.configured.registry in
-    let old : Shown = shows (F.contents c.args.folder.now) (F.failures c.args.folder.now) in
-    let mid : Contents = F.contents c.read_asked.new.folder in
+    let old : Shown = shows (F.device.contents c.args.folder.now) (F.device.failures c.args.folder.now) in
+    let mid : Contents = F.device.contents c.read_asked.new.folder in
     let result = c.look_beside.result in
-    let known = F.faithful c.look_beside.new.folder in
-    let back = c.look_beside.ensures.back in
-    of_status (tables_of g.T.Transforms.meanings M c.args.tables.now) known old (F.failures c.look_beside.new.folder) c.args.invocation.now
-    notation activity source (λ faithful. c.in-Ok.ensures.read (back faithful)) mid (F.failures c.read_asked.new.folder)
-    (λ faithful. c.read_asked.ensures.same (back faithful)) c.read_asked.ensures.requests.count c.look_beside.ensures.requests.count result
+    let known = F.device.faithful c.look_beside.new.folder in
+    let back = c.look_beside.ensures.reads.requests.back in
+    of_status (tables_of g.T.Transforms.meanings M c.args.tables.now) known old (F.device.failures c.look_beside.new.folder) c.args.invocation.now
+    notation activity source (λ faithful. c.in-Ok.ensures.read (back faithful)) mid (F.device.failures c.read_asked.new.folder)
+    (λ faithful. c.read_asked.ensures.reads.same (back faithful)) c.read_asked.ensures.reads.requests.count c.look_beside.ensures.reads.requests.count result
     (subst (λ (given : handed.Tables _ _ _ _ _ _ _). IfOk result (λ text. IsStatusOf known notation activity mid.files (paths_of (registry_said (tables_of g.T.Transforms.meanings M given) source)) (string_bytes text))) c.in-Ok.ensures.tables c.look_beside.ensures.text)
     c.look_beside.ensures.refused

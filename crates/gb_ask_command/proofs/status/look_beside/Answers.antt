@@ -16,7 +16,7 @@ returns-clause-text g c =
     let activity = c.args.activity in
     let source : Source = c.args.configured.now.registry in
     let tables = tables_of g.T.Transforms.meanings g.A.Actions.meanings c.args.configured.now.tables.now in
-    let files = (F.contents c.args.folder.now).files in
+    let files = (F.device.contents c.args.folder.now).files in
     let names : c.as_slice.result.now ≡ paths_of (registry_said tables source) =
     c.as_slice.ensures.value ∙ c.in_ok-names.ensures ∙ sym c.tasks-registered.ensures.tasks ∙ c.tasks-registered.ensures.registered ∙ sym (paths_said tables source) in
-    subst (λ (paths : List Path). IfOk c.inventory_text.result (λ text. IsStatusOf (F.faithful c.inventory_text.new.folder) notation activity files paths (string_bytes text))) names c.inventory_text.ensures.text
+    subst (λ (paths : List Path). IfOk c.inventory_text.result (λ text. IsStatusOf (F.device.faithful c.inventory_text.new.folder) notation activity files paths (string_bytes text))) names c.inventory_text.ensures.text

@@ -15,9 +15,9 @@ returns-in-Ok-clause-reply g c =
     let M = g.A.Actions.meanings in
     let notation = c.args.notation in
     let source = c.in-Ok.configured.registry in
-    let old : Shown = shows (F.contents c.args.folder.now) (F.failures c.args.folder.now) in
+    let old : Shown = shows (F.device.contents c.args.folder.now) (F.device.failures c.args.folder.now) in
     let result = c.list_registered.result in
-    of_text (tables_of g.T.Transforms.meanings M c.args.tables.now) (F.faithful c.read_asked.new.folder) old (F.failures c.read_asked.new.folder) c.args.invocation.now
+    of_text (tables_of g.T.Transforms.meanings M c.args.tables.now) (F.device.faithful c.read_asked.new.folder) old (F.device.failures c.read_asked.new.folder) c.args.invocation.now
     (IsTasksText notation) source c.in-Ok.ensures.read result
     (subst (λ (given : handed.Tables _ _ _ _ _ _ _). IfOk result (λ text. IsTasksText notation (registry_said (tables_of g.T.Transforms.meanings M given) source) (string_bytes text))) c.in-Ok.ensures.tables c.list_registered.ensures.text)
     c.list_registered.ensures.fault

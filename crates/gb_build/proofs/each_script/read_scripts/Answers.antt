@@ -22,20 +22,20 @@ loop-project-preserved g c =
     let F = g.F.Folder in
     let project = c.project-item.result in
     record {
-      requests = requests_then c.loop-project.invariant.requests c.read_script_of.ensures.requests;
-      back = λ known. c.loop-project.invariant.back (c.read_script_of.ensures.back known);
-      same = λ faithful. c.read_script_of.ensures.same faithful ∙ c.loop-project.invariant.same (c.read_script_of.ensures.back faithful);
+      requests = requests_then c.loop-project.invariant.requests c.read_script_of.ensures.reads.requests;
+      back = λ known. c.loop-project.invariant.back (c.read_script_of.ensures.reads.requests.back known);
+      same = λ faithful. c.read_script_of.ensures.reads.same faithful ∙ c.loop-project.invariant.same (c.read_script_of.ensures.reads.requests.back faithful);
       one_each = long_more c.loop-project.scripts.items _ c.in_ok-read_script_of.field-0 c.loop-project.project-index c.in_ok-push.ensures.items c.loop-project.invariant.one_each;
       parsed =
           parsed_more c.args.projects.now c.loop-project.project-index project c.loop-project.scripts.items _ c.in_ok-read_script_of.field-0
           c.loop-project-test.true c.project-item.is
-          (all_parsed_longer (requests_nothing c.args.folder.now) c.read_script_of.ensures.requests _ c.loop-project.scripts.items c.loop-project.invariant.parsed)
+          (all_parsed_longer (requests_nothing c.args.folder.now) c.read_script_of.ensures.reads.requests _ c.loop-project.scripts.items c.loop-project.invariant.parsed)
           (parsed_longer Says c.loop-project.invariant.requests (requests_nothing c.read_script_of.new.folder) (script_place project.1) c.in_ok-read_script_of.field-0 c.in_ok-read_script_of.ensures.parsed)
           c.in_ok-push.ensures.items;
       texts = λ faithful.
-          text_more (F.contents c.args.folder.now).files c.args.projects.now c.loop-project.project-index project c.loop-project.scripts.items _ c.in_ok-read_script_of.field-0
-          c.loop-project-test.true c.project-item.is (c.loop-project.invariant.texts (c.read_script_of.ensures.back faithful))
-          (subst (λ (folder : Contents). TextSays Says folder.files (script_place project.1) (Ok c.in_ok-read_script_of.field-0)) (c.loop-project.invariant.same (c.read_script_of.ensures.back faithful)) (c.in_ok-read_script_of.ensures.said faithful))
+          text_more (F.device.contents c.args.folder.now).files c.args.projects.now c.loop-project.project-index project c.loop-project.scripts.items _ c.in_ok-read_script_of.field-0
+          c.loop-project-test.true c.project-item.is (c.loop-project.invariant.texts (c.read_script_of.ensures.reads.requests.back faithful))
+          (subst (λ (folder : Contents). TextSays Says folder.files (script_place project.1) (Ok c.in_ok-read_script_of.field-0)) (c.loop-project.invariant.same (c.read_script_of.ensures.reads.requests.back faithful)) (c.in_ok-read_script_of.ensures.said faithful))
           c.in_ok-push.ensures.items;
     }
 
@@ -46,8 +46,8 @@ returns-in_err-read_script_of-clause-said g c = λ faithful.
     let fault = c.in_err-read_script_of.field-0.0 in
     handed _ _ c.from_residual.result fault c.from_residual.ensures.1
     (elim (c.in_err-read_script_of.ensures.said faithful) [
-      | inl machine ↦ inl (machine_before _ _ _ fault c.loop-project.invariant.requests.count c.read_script_of.ensures.requests.count machine)
-      | inr bad ↦ inr (first_fault (F.contents c.args.folder.now).files c.args.projects.now c.loop-project.project-index project c.loop-project.scripts.items fault
-          c.loop-project-test.true c.project-item.is (c.loop-project.invariant.texts (c.read_script_of.ensures.back faithful))
-          (subst (λ (folder : Contents). TextSays Says folder.files (script_place project.1) (Err fault)) (c.loop-project.invariant.same (c.read_script_of.ensures.back faithful)) bad))
+      | inl machine ↦ inl (machine_before _ _ _ fault c.loop-project.invariant.requests.count c.read_script_of.ensures.reads.requests.count machine)
+      | inr bad ↦ inr (first_fault (F.device.contents c.args.folder.now).files c.args.projects.now c.loop-project.project-index project c.loop-project.scripts.items fault
+          c.loop-project-test.true c.project-item.is (c.loop-project.invariant.texts (c.read_script_of.ensures.reads.requests.back faithful))
+          (subst (λ (folder : Contents). TextSays Says folder.files (script_place project.1) (Err fault)) (c.loop-project.invariant.same (c.read_script_of.ensures.reads.requests.back faithful)) bad))
     ])

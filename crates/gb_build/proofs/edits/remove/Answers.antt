@@ -7,8 +7,8 @@ pub returns-in-Err-clause-step : goal.returns-in-Err-clause-step
 returns-in-Err-clause-step g c = λ faithful.
     let fault = c.in-Err.fault in
     let w = c.remove.ensures in
-    remove_failed (g.F.Folder.may_leave c.args.folder.now) c.args.place.now _ _ _ _ fault c.fault_of.result (sym c.is_own.ensures ∙ c.if-is_own.false) (c.fault_of.ensures ∙ ap (λ p. reported_at p fault) c.in_ok-at.ensures)
-    (λ e. w.device (c.in-Err.is ∙ ap Err e)) (λ other. c.in-Err.ensures.same faithful other) (λ e. w.blocked faithful (c.in-Err.is ∙ ap Err e))
+    remove_failed (g.F.Folder.device.may_leave c.args.folder.now) c.args.place.now _ _ _ _ fault c.fault_of.result (sym c.is_own.ensures ∙ c.if-is_own.false) (c.fault_of.ensures ∙ ap (λ p. reported_at p fault) c.in_ok-at.ensures)
+    (λ e. w.risen (c.in-Err.is ∙ ap Err e)) (λ other. c.in-Err.ensures.same faithful other) (λ e. w.blocked faithful (c.in-Err.is ∙ ap Err e))
     (λ e. w.missing faithful (c.in-Err.is ∙ ap Err e)) (λ e. w.missing_free faithful (c.in-Err.is ∙ ap Err e))
     (λ e. w.not_large (c.in-Err.is ∙ ap Err e)) (λ e. w.not_named (c.in-Err.is ∙ ap Err e)) (λ e. w.torn faithful (c.in-Err.is ∙ ap Err e))
 

@@ -25,13 +25,13 @@ loop-event-preserved g c =
     let F = g.F.Folder in
     let ear = g.L.TaskListener.ear in
     let registers = registers_in (tables_of g.T.Transforms.meanings g.A.Actions.meanings c.args.tables.now) in
-    let first = F.may_leave c.args.folder.now in
-    let second = F.may_leave c.loop-event.folder in
+    let first = F.device.may_leave c.args.folder.now in
+    let second = F.device.may_leave c.loop-event.folder in
     let so_far = c.loop-event.invariant in
     let index = c.loop-event.event-index in
-    let start : Shown = shows (F.contents c.args.folder.now) (F.failures c.args.folder.now) in
-    let here : Shown = shows (F.contents c.loop-event.folder) (F.failures c.loop-event.folder) in
-    let next : Shown = shows (F.contents c.take.new.folder) (F.failures c.take.new.folder) in
+    let start : Shown = shows (F.device.contents c.args.folder.now) (F.device.failures c.args.folder.now) in
+    let here : Shown = shows (F.device.contents c.loop-event.folder) (F.device.failures c.loop-event.folder) in
+    let next : Shown = shows (F.device.contents c.take.new.folder) (F.device.failures c.take.new.folder) in
     let items : c.push.new.self.items ≡ c.loop-event.answers.items ++ c.take.result ∷ [] = c.in_ok-push.ensures.items in
     let taken_here = ap (λ event. take index c.args.events.now ++ event ∷ []) c.event-item.is ∙ sym (take_more c.args.events.now index c.event-item.result c.loop-event-test.true) in
     record {
@@ -39,7 +39,7 @@ loop-event-preserved g c =
       long = omega (arith, c.in_ok-push.ensures.len, so_far.long);
       each = grind arith;
       count = omega (arith, so_far.count, c.take.ensures.count);
-      tearing = SameTearing-chain first second (F.may_leave c.take.new.folder) so_far.tearing c.take.ensures.tearing;
+      tearing = SameTearing-chain first second (F.device.may_leave c.take.new.folder) so_far.tearing c.take.ensures.tearing;
       device = subst (λ (reported : List Answer). HasFailed (times_blamed_in_all reported) start.failures next.failures) (sym items)
           (blamed_more c.loop-event.answers.items c.take.result start.failures here.failures next.failures so_far.device c.take.ensures.device c.take.ensures.count);
       heard = subst (λ (reported : List Answer). HaveHeardAll reported (map ear c.args.listeners.now.items) (map ear c.take.new.listeners.items)) (sym items)
@@ -48,9 +48,9 @@ loop-event-preserved g c =
           (subst (λ (events : List Event). AllZip AnswerIsOutlined events (c.loop-event.answers.items ++ c.take.result ∷ [])) taken_here
           (outlined_more (take index c.args.events.now) c.loop-event.answers.items c.event-item.result c.take.result so_far.outlined c.take.ensures.outlined));
       requests =
-          subst (λ (reported : List Answer). EventsRequest F.failures F.may_leave F.allowed (tables_of g.T.Transforms.meanings g.A.Actions.meanings c.args.tables.now) (take (index + 1) c.args.events.now) reported c.args.folder.now c.take.new.folder) (sym items)
-          (subst (λ (events : List Event). EventsRequest F.failures F.may_leave F.allowed (tables_of g.T.Transforms.meanings g.A.Actions.meanings c.args.tables.now) events (c.loop-event.answers.items ++ c.take.result ∷ []) c.args.folder.now c.take.new.folder) taken_here
-          (requests_more_events g.F.Folder.failures g.F.Folder.may_leave g.F.Folder.allowed (tables_of g.T.Transforms.meanings g.A.Actions.meanings c.args.tables.now) (take index c.args.events.now) c.loop-event.answers.items c.event-item.result c.take.result c.args.folder.now c.loop-event.folder c.take.new.folder
+          subst (λ (reported : List Answer). EventsRequest F.device (tables_of g.T.Transforms.meanings g.A.Actions.meanings c.args.tables.now) (take (index + 1) c.args.events.now) reported c.args.folder.now c.take.new.folder) (sym items)
+          (subst (λ (events : List Event). EventsRequest F.device (tables_of g.T.Transforms.meanings g.A.Actions.meanings c.args.tables.now) events (c.loop-event.answers.items ++ c.take.result ∷ []) c.args.folder.now c.take.new.folder) taken_here
+          (requests_more_events g.F.Folder.device (tables_of g.T.Transforms.meanings g.A.Actions.meanings c.args.tables.now) (take index c.args.events.now) c.loop-event.answers.items c.event-item.result c.take.result c.args.folder.now c.loop-event.folder c.take.new.folder
           (taken_all index c.args.events.now c.loop-event.answers.items so_far.each c.loop-event-test.true) so_far.requests c.take.ensures.requests));
       back = λ known. so_far.back (c.take.ensures.back known);
       elsewhere = λ faithful.
@@ -73,10 +73,10 @@ pub returns-clause-holds : goal.returns-clause-holds
 returns-clause-holds g c = λ faithful kinds assumed.
     let F = g.F.Folder in
     let registers = registers_in (tables_of g.T.Transforms.meanings g.A.Actions.meanings c.args.tables.now) in
-    let setting = setting_by kinds registers (F.may_leave c.args.folder.now) in
+    let setting = setting_by kinds registers (F.device.may_leave c.args.folder.now) in
     let so_far = c.loop-event.invariant in
-    let start : Shown = shows (F.contents c.args.folder.now) (F.failures c.args.folder.now) in
-    let end : Shown = shows (F.contents c.loop-event.folder) (F.failures c.loop-event.folder) in
+    let start : Shown = shows (F.device.contents c.args.folder.now) (F.device.failures c.args.folder.now) in
+    let end : Shown = shows (F.device.contents c.loop-event.folder) (F.device.failures c.loop-event.folder) in
     runs_hold setting start end c.args.events.now c.loop-event.answers.items
     (to_the_end setting start end c.loop-event.event-index c.args.events.now c.loop-event.answers.items c.loop-event-test.false
     (so_far.holds faithful kinds assumed [] [] end (runs_nowhere setting end)))
@@ -90,12 +90,12 @@ pub returns-clause-promise : goal.returns-clause-promise
 returns-clause-promise g c = λ faithful kinds assumed.
     let F = g.F.Folder in
     let registers = registers_in (tables_of g.T.Transforms.meanings g.A.Actions.meanings c.args.tables.now) in
-    headline (setting_by kinds registers (F.may_leave c.args.folder.now)) (shows (F.contents c.args.folder.now) (F.failures c.args.folder.now))
-    (shows (F.contents c.loop-event.folder) (F.failures c.loop-event.folder)) c.args.events.now c.loop-event.answers.items
+    headline (setting_by kinds registers (F.device.may_leave c.args.folder.now)) (shows (F.device.contents c.args.folder.now) (F.device.failures c.args.folder.now))
+    (shows (F.device.contents c.loop-event.folder) (F.device.failures c.loop-event.folder)) c.args.events.now c.loop-event.answers.items
     (returns-clause-holds g c faithful kinds assumed)
 
 pub returns-clause-requests : goal.returns-clause-requests
 returns-clause-requests g c =
     let F = g.F.Folder in
-    subst (λ (events : List Event). EventsRequest F.failures F.may_leave F.allowed (tables_of g.T.Transforms.meanings g.A.Actions.meanings c.args.tables.now) events c.loop-event.answers.items c.args.folder.now c.loop-event.folder)
+    subst (λ (events : List Event). EventsRequest F.device (tables_of g.T.Transforms.meanings g.A.Actions.meanings c.args.tables.now) events c.loop-event.answers.items c.args.folder.now c.loop-event.folder)
     (take_all c.loop-event.event-index c.args.events.now c.loop-event-test.false) c.loop-event.invariant.requests

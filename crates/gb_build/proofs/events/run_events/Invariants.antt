@@ -25,18 +25,18 @@ invariant-loop-event g l =
       room : length l.events ≤ vec_capacity l.answers;
       long : vec_len l.answers ≡ l.event-index;
       each : length l.answers.items ≡ l.event-index;
-      count : F.failures l.fn.folder ≤ F.failures l.folder;
-      tearing : SameTearing (F.may_leave l.fn.folder) (F.may_leave l.folder);
-      requests : EventsRequest F.failures F.may_leave F.allowed (tables_of g.T.Transforms.meanings g.A.Actions.meanings l.tables) (take l.event-index l.events) l.answers.items l.fn.folder l.folder;
-      device : HasFailed (times_blamed_in_all l.answers.items) (F.failures l.fn.folder) (F.failures l.folder);
+      count : F.device.failures l.fn.folder ≤ F.device.failures l.folder;
+      tearing : SameTearing (F.device.may_leave l.fn.folder) (F.device.may_leave l.folder);
+      requests : EventsRequest F.device (tables_of g.T.Transforms.meanings g.A.Actions.meanings l.tables) (take l.event-index l.events) l.answers.items l.fn.folder l.folder;
+      device : HasFailed (times_blamed_in_all l.answers.items) (F.device.failures l.fn.folder) (F.device.failures l.folder);
       heard : HaveHeardAll l.answers.items (map g.L.TaskListener.ear l.fn.listeners.items) (map g.L.TaskListener.ear l.listeners.items);
       outlined : AllZip AnswerIsOutlined (take l.event-index l.events) l.answers.items;
-      back : F.faithful l.folder → F.faithful l.fn.folder;
-      elsewhere : F.faithful l.folder → AllKeepElsewhere (registers_in tables) (take l.event-index l.events) l.answers.items (F.contents l.fn.folder) (F.contents l.folder);
+      back : F.device.faithful l.folder → F.device.faithful l.fn.folder;
+      elsewhere : F.device.faithful l.folder → AllKeepElsewhere (registers_in tables) (take l.event-index l.events) l.answers.items (F.device.contents l.fn.folder) (F.device.contents l.folder);
       -- with any run that continues from here, these events are one run
-      holds : F.faithful l.folder → (kinds : Kinds) → IsAssumed g.A.Actions.meanings l.tables.actions kinds (F.may_leave l.fn.folder)
+      holds : F.device.faithful l.folder → (kinds : Kinds) → IsAssumed g.A.Actions.meanings l.tables.actions kinds (F.device.may_leave l.fn.folder)
           → (rest : List Event) (others : List Answer) (end : Shown)
-          → RunsFrom (setting_by kinds (registers_in tables) (F.may_leave l.fn.folder)) (shows (F.contents l.folder) (F.failures l.folder)) rest others end
-          → RunsFrom (setting_by kinds (registers_in tables) (F.may_leave l.fn.folder)) (shows (F.contents l.fn.folder) (F.failures l.fn.folder))
+          → RunsFrom (setting_by kinds (registers_in tables) (F.device.may_leave l.fn.folder)) (shows (F.device.contents l.folder) (F.device.failures l.folder)) rest others end
+          → RunsFrom (setting_by kinds (registers_in tables) (F.device.may_leave l.fn.folder)) (shows (F.device.contents l.fn.folder) (F.device.failures l.fn.folder))
           (take l.event-index l.events ++ rest) (l.answers.items ++ others) end;
     }

@@ -32,9 +32,9 @@ pub returns-in_err-tasks-clause-leads : goal.returns-in_err-tasks-clause-leads
 returns-in_err-tasks-clause-leads g c = λ faithful kinds assumed.
     let F = g.F.Folder in
     let tables = tables_of g.T.Transforms.meanings g.A.Actions.meanings c.args.configured.now.tables.now in
-    let old : Shown = record { contents = F.contents c.args.folder.now; failures = F.failures c.args.folder.now } in
+    let old : Shown = record { contents = F.device.contents c.args.folder.now; failures = F.device.failures c.args.folder.now } in
     let p = err_from_is_err_and c.from_residual.result c.from_residual.ensures.1 in
-    out_of_memory (setting_with kinds (λ files given. Ok (registry_said tables c.args.configured.now.registry)) (F.may_leave c.args.folder.now)) old old c.args.invocation.now p.0 p.2
+    out_of_memory (setting_with kinds (λ files given. Ok (registry_said tables c.args.configured.now.registry)) (F.device.may_leave c.args.folder.now)) old old c.args.invocation.now p.0 p.2
     refl c.from_residual.result p.1
 
 pub build_requested-answered-requires : goal.build_requested-answered-requires
@@ -50,9 +50,9 @@ returns-clause-leads g c = λ faithful kinds assumed.
     let tables = tables_of g.T.Transforms.meanings g.A.Actions.meanings c.args.configured.now.tables.now in
     let declared = registry_in g.T.Transforms.meanings g.A.Actions.meanings c.in_ok-tasks.tasks.workspace in
     let same : declared ≡ registry_said tables c.args.configured.now.registry = c.in_ok-tasks.ensures.registry in
-    let old : Shown = record { contents = F.contents c.args.folder.now; failures = F.failures c.args.folder.now } in
-    let new : Shown = record { contents = F.contents c.build_requested-answered.new.folder; failures = F.failures c.build_requested-answered.new.folder } in
-    subst (λ (registry : Registry). IsTransition (setting_with kinds (λ files given. Ok registry) (F.may_leave c.args.folder.now)) old (events.Invoke c.args.invocation.now) (answer_of c.build_requested-answered.result) new) same
+    let old : Shown = record { contents = F.device.contents c.args.folder.now; failures = F.device.failures c.args.folder.now } in
+    let new : Shown = record { contents = F.device.contents c.build_requested-answered.new.folder; failures = F.device.failures c.build_requested-answered.new.folder } in
+    subst (λ (registry : Registry). IsTransition (setting_with kinds (λ files given. Ok registry) (F.device.may_leave c.args.folder.now)) old (events.Invoke c.args.invocation.now) (answer_of c.build_requested-answered.result) new) same
     (c.build_requested-answered.ensures.leads faithful kinds (λ files given. Ok declared) assumed refl)
 
 pub returns-clause-keeps : goal.returns-clause-keeps
@@ -62,7 +62,7 @@ returns-clause-keeps g c = λ faithful.
     let declared = registry_in g.T.Transforms.meanings g.A.Actions.meanings c.in_ok-tasks.tasks.workspace in
     let same : declared ≡ registry_said tables c.args.configured.now.registry = c.in_ok-tasks.ensures.registry in
     let changes = c.build_requested-answered.ensures.elsewhere faithful in
-    subst (λ (registry : Registry). KeepsElsewhere registry (F.contents c.args.folder.now) (F.contents c.build_requested-answered.new.folder)) same (changes.elsewhere, changes.special)
+    subst (λ (registry : Registry). KeepsElsewhere registry (F.device.contents c.args.folder.now) (F.device.contents c.build_requested-answered.new.folder)) same (changes.elsewhere, changes.special)
 
 pub returns-in_err-tasks-clause-keeps : goal.returns-in_err-tasks-clause-keeps
 returns-in_err-tasks-clause-keeps g c = λ faithful. (refl, refl)
@@ -71,7 +71,7 @@ pub returns-in_err-tasks-clause-device : goal.returns-in_err-tasks-clause-device
 returns-in_err-tasks-clause-device g c =
     let F = g.F.Folder in
     let p = err_from_is_err_and c.from_residual.result c.from_residual.ensures.1 in
-    memory_blames_none c.from_residual.result p.0 (F.failures c.args.folder.now) (F.failures c.args.folder.now) (omega arith) p.1 p.2
+    memory_blames_none c.from_residual.result p.0 (F.device.failures c.args.folder.now) (F.device.failures c.args.folder.now) (omega arith) p.1 p.2
 
 pub returns-clause-device : goal.returns-clause-device
 returns-clause-device g c =
@@ -93,7 +93,7 @@ returns-in_err-tasks-clause-not_begun g c =
     let F = g.F.Folder in
     let tables = tables_of g.T.Transforms.meanings g.A.Actions.meanings c.args.configured.now.tables.now in
     let p = err_from_is_err_and c.from_residual.result c.from_residual.ensures.1 in
-    of_fault (IsNotBegun (registry_said tables c.args.configured.now.registry) c.args.invocation.now (F.failures c.args.folder.now) (F.failures c.args.folder.now)) c.from_residual.result p.0 p.1
+    of_fault (IsNotBegun (registry_said tables c.args.configured.now.registry) c.args.invocation.now (F.device.failures c.args.folder.now) (F.device.failures c.args.folder.now)) c.from_residual.result p.0 p.1
     (inl (inl p.2))
 
 pub returns-clause-outlined : goal.returns-clause-outlined
@@ -109,14 +109,14 @@ returns-clause-not_begun g c =
     let tables = tables_of g.T.Transforms.meanings g.A.Actions.meanings c.args.configured.now.tables.now in
     let same : registry_in g.T.Transforms.meanings g.A.Actions.meanings c.in_ok-tasks.tasks.workspace ≡ registry_said tables c.args.configured.now.registry = c.in_ok-tasks.ensures.registry in
     subst (λ (registry : Registry). IfErr c.build_requested-answered.result
-    (IsNotBegun registry c.args.invocation.now (F.failures c.args.folder.now) (F.failures c.build_requested-answered.new.folder))) same c.build_requested-answered.ensures.not_begun
+    (IsNotBegun registry c.args.invocation.now (F.device.failures c.args.folder.now) (F.device.failures c.build_requested-answered.new.folder))) same c.build_requested-answered.ensures.not_begun
 
 pub returns-clause-places : goal.returns-clause-places
 returns-clause-places g c =
     let F = g.F.Folder in
     let tables = tables_of g.T.Transforms.meanings g.A.Actions.meanings c.args.configured.now.tables.now in
-    let before = F.failures c.args.folder.now in
-    let after = F.failures c.build_requested-answered.new.folder in
+    let before = F.device.failures c.args.folder.now in
+    let after = F.device.failures c.build_requested-answered.new.folder in
     let registry = registry_said tables c.args.configured.now.registry in
     each_fault (IsNotBegun registry c.args.invocation.now before after) (λ (fault : Fault). (place : List ℕ) → fault ≡ faults.Device place → IsTrue (is_own place && not c.args.invocation.now.options.dry_run))
     (λ fault why. refused_at registry c.args.invocation.now fault before after (declared_blame_none tables c.args.configured.now.registry) why)
@@ -126,7 +126,7 @@ pub returns-clause-requests : goal.returns-clause-requests
 returns-clause-requests g c =
     let F = g.F.Folder in
     let answered = c.build_requested-answered in
-    subst (λ (registry : Registry). BuildRequests F.failures F.may_leave F.allowed g.A.Actions.meanings c.args.configured.now.tables.now.actions registry c.args.invocation.now answered.result c.args.folder.now answered.new.folder)
+    subst (λ (registry : Registry). BuildRequests F.device g.A.Actions.meanings c.args.configured.now.tables.now.actions registry c.args.invocation.now answered.result c.args.folder.now answered.new.folder)
     c.in_ok-tasks.ensures.registry answered.ensures.requests
 
 pub returns-in_err-tasks-clause-requests : goal.returns-in_err-tasks-clause-requests

@@ -37,9 +37,9 @@ pub returns-in_err-copied-clause-does : goal.returns-in_err-copied-clause-does
 returns-in_err-copied-clause-does g c =
     let F = g.F.Folder in
     let p = err_from_is_err_and c.from_residual.result c.from_residual.ensures.1 in
-    refusal_does F.failures F.may_leave F.allowed (tables_of g.T.Transforms.meanings g.A.Actions.meanings c.args.tables.now) c.args.invocation.now c.from_residual.result c.args.folder.now c.args.folder.now
+    refusal_does F.device (tables_of g.T.Transforms.meanings g.A.Actions.meanings c.args.tables.now) c.args.invocation.now c.from_residual.result c.args.folder.now c.args.folder.now
     p.0 p.1 (requests_nothing c.args.folder.now)
-    (memory_blames_none c.from_residual.result p.0 (F.failures c.args.folder.now) (F.failures c.args.folder.now) (omega arith) p.1 p.2)
+    (memory_blames_none c.from_residual.result p.0 (F.device.failures c.args.folder.now) (F.device.failures c.args.folder.now) (omega arith) p.1 p.2)
     (λ place is. absurd (no_device place (sym p.2 ∙ is)))
   where
     no_device : (place : List ℕ) → faults.OutOfMemory ≡ faults.Device place → ⊥
@@ -48,9 +48,9 @@ returns-in_err-copied-clause-does g c =
 pub returns-in_err-copied-clause-promise : goal.returns-in_err-copied-clause-promise
 returns-in_err-copied-clause-promise g c = λ faithful.
     let F = g.F.Folder in
-    let old : Shown = shows (F.contents c.args.folder.now) (F.failures c.args.folder.now) in
+    let old : Shown = shows (F.device.contents c.args.folder.now) (F.device.failures c.args.folder.now) in
     let p = err_from_is_err_and c.from_residual.result c.from_residual.ensures.1 in
-    refusal_promised (tables_of g.T.Transforms.meanings g.A.Actions.meanings c.args.tables.now) (F.may_leave c.args.folder.now) c.args.invocation.now old c.from_residual.result old (omega arith)
+    refusal_promised (tables_of g.T.Transforms.meanings g.A.Actions.meanings c.args.tables.now) (F.device.may_leave c.args.folder.now) c.args.invocation.now old c.from_residual.result old (omega arith)
     p.0 p.1 refl (inr (inr (inl p.2)))
 
 -- ---- The scripts could not be read
@@ -61,9 +61,9 @@ returns-in_err-configured-clause-does g c =
     let result = c.from_residual-in_err-configured.result in
     let p = err_from_is_err_and result c.from_residual-in_err-configured.ensures.1 in
     let read = c.read_registry in
-    refusal_does F.failures F.may_leave F.allowed (tables_of g.T.Transforms.meanings g.A.Actions.meanings c.args.tables.now) c.args.invocation.now result c.args.folder.now read.new.folder
-    p.0 p.1 read.ensures.requests
-    (reading_fails read.result c.in_err-configured.field-0.0 p.0 (F.failures c.args.folder.now) (F.failures read.new.folder) read.ensures.requests.count c.in_err-configured.was p.2 read.ensures.blame result p.1)
+    refusal_does F.device (tables_of g.T.Transforms.meanings g.A.Actions.meanings c.args.tables.now) c.args.invocation.now result c.args.folder.now read.new.folder
+    p.0 p.1 read.ensures.reads.requests
+    (reading_fails read.result c.in_err-configured.field-0.0 p.0 (F.device.failures c.args.folder.now) (F.device.failures read.new.folder) read.ensures.reads.requests.count c.in_err-configured.was p.2 read.ensures.blame result p.1)
     (read_first c.args.invocation.now read.result c.in_err-configured.field-0.0 p.0 c.in_err-configured.was p.2 read.ensures.blamed)
 
 pub returns-in_err-configured-clause-promise : goal.returns-in_err-configured-clause-promise
@@ -71,11 +71,11 @@ returns-in_err-configured-clause-promise g c = λ faithful.
     let F = g.F.Folder in
     let tables = tables_of g.T.Transforms.meanings g.A.Actions.meanings c.args.tables.now in
     let read = c.read_registry in
-    let old : Shown = shows (F.contents c.args.folder.now) (F.failures c.args.folder.now) in
-    let new : Shown = shows (F.contents read.new.folder) (F.failures read.new.folder) in
+    let old : Shown = shows (F.device.contents c.args.folder.now) (F.device.failures c.args.folder.now) in
+    let new : Shown = shows (F.device.contents read.new.folder) (F.device.failures read.new.folder) in
     let p = err_from_is_err_and c.from_residual-in_err-configured.result c.from_residual-in_err-configured.ensures.1 in
-    refusal_promised tables (F.may_leave c.args.folder.now) c.args.invocation.now old c.from_residual-in_err-configured.result new read.ensures.requests.count
-    p.0 p.1 (read.ensures.same faithful)
+    refusal_promised tables (F.device.may_leave c.args.folder.now) c.args.invocation.now old c.from_residual-in_err-configured.result new read.ensures.reads.requests.count
+    p.0 p.1 (read.ensures.reads.same faithful)
     (not_read tables old.contents c.args.invocation.now (c.into_vec-given.result.items) (c.into_vec-given.ensures ∙ c.in_ok-copied.ensures)
     read.result c.in_err-configured.field-0.0 p.0 old.failures new.failures c.in_err-configured.was p.2 read.ensures.blamed (c.in_err-configured.ensures.said faithful)
     old refl refl)
@@ -92,11 +92,11 @@ returns-clause-does g c = record {
       let answered = c.build_registered-answered in
       let begun = c.read_registry.new.folder in
       let new = answered.new.folder in
-      declared_requests F.failures F.may_leave F.allowed (tables_of means meanings c.args.tables.now) c.args.invocation.now answered.result source c.into_vec-given.result.items c.args.folder.now begun new
-      (c.into_vec-given.ensures ∙ c.in_ok-copied.ensures) c.read_registry.ensures.requests c.in_ok-configured.ensures.declared
+      declared_requests F.device (tables_of means meanings c.args.tables.now) c.args.invocation.now answered.result source c.into_vec-given.result.items c.args.folder.now begun new
+      (c.into_vec-given.ensures ∙ c.in_ok-copied.ensures) c.read_registry.ensures.reads.requests c.in_ok-configured.ensures.declared
       (subst (λ (given : handed.Tables _ _ _ _ _ _ _). OnOk answered.result (IsRegistry (registry_said (tables_of means meanings given) source) × AreBuildable meanings given.actions (registry_said (tables_of means meanings given) source)))
       c.in_ok-configured.ensures.tables answered.ensures.buildable)
-      (subst (λ (given : handed.Tables _ _ _ _ _ _ _). BuildRequests F.failures F.may_leave F.allowed meanings given.actions (registry_said (tables_of means meanings given) source) c.args.invocation.now answered.result begun new)
+      (subst (λ (given : handed.Tables _ _ _ _ _ _ _). BuildRequests F.device meanings given.actions (registry_said (tables_of means meanings given) source) c.args.invocation.now answered.result begun new)
       c.in_ok-configured.ensures.tables answered.ensures.requests);
   dry_run = c.build_registered-answered.ensures.dry_run;
   outlined = c.build_registered-answered.ensures.outlined;
@@ -105,72 +105,73 @@ returns-clause-does g c = record {
       (λ (fault : Fault). (place : List ℕ) → fault ≡ faults.Device place → IsTrue (is_read_first c.args.invocation.now.options place))
       (λ fault at place is. own_is_read_first c.args.invocation.now place (at place is))
       c.build_registered-answered.result c.build_registered-answered.ensures.places;
-  device =
+  blame =
       let F = g.F.Folder in
-      failed_since (times_blamed (answer_of c.build_registered-answered.result)) (F.failures c.args.folder.now) (F.failures c.read_registry.new.folder) (F.failures c.build_registered-answered.new.folder)
-      c.read_registry.ensures.requests.count c.build_registered-answered.ensures.device;
-  count = omega (arith, c.read_registry.ensures.requests.count, c.build_registered-answered.ensures.count);
-  tearing = SameTearing-chain (g.F.Folder.may_leave c.args.folder.now) (g.F.Folder.may_leave c.read_registry.new.folder) (g.F.Folder.may_leave c.build_registered-answered.new.folder)
-      c.read_registry.ensures.requests.tearing c.build_registered-answered.ensures.tearing;
+      failed_since (times_blamed (answer_of c.build_registered-answered.result)) (F.device.failures c.args.folder.now) (F.device.failures c.read_registry.new.folder) (F.device.failures c.build_registered-answered.new.folder)
+      c.read_registry.ensures.reads.requests.count c.build_registered-answered.ensures.device;
+  count = omega (arith, c.read_registry.ensures.reads.requests.count, c.build_registered-answered.ensures.count);
+  back = λ known. c.read_registry.ensures.reads.requests.back (c.build_registered-answered.ensures.back known);
+  tearing = SameTearing-chain (g.F.Folder.device.may_leave c.args.folder.now) (g.F.Folder.device.may_leave c.read_registry.new.folder) (g.F.Folder.device.may_leave c.build_registered-answered.new.folder)
+      c.read_registry.ensures.reads.requests.tearing c.build_registered-answered.ensures.tearing;
 }
 
 pub returns-clause-promise : goal.returns-clause-promise
 returns-clause-promise g c = λ faithful.
     let F = g.F.Folder in
     let answered = c.build_registered-answered in
-    promised (tables_of g.T.Transforms.meanings g.A.Actions.meanings c.args.tables.now) (F.may_leave c.args.folder.now) c.args.invocation.now
-    (shows (F.contents c.args.folder.now) (F.failures c.args.folder.now)) answered.result (shows (F.contents answered.new.folder) (F.failures answered.new.folder))
-    (omega (arith, c.read_registry.ensures.requests.count, answered.ensures.count))
+    promised (tables_of g.T.Transforms.meanings g.A.Actions.meanings c.args.tables.now) (F.device.may_leave c.args.folder.now) c.args.invocation.now
+    (shows (F.device.contents c.args.folder.now) (F.device.failures c.args.folder.now)) answered.result (shows (F.device.contents answered.new.folder) (F.device.failures answered.new.folder))
+    (omega (arith, c.read_registry.ensures.reads.requests.count, answered.ensures.count))
     (
     let F = g.F.Folder in
     let tables = tables_of g.T.Transforms.meanings g.A.Actions.meanings c.args.tables.now in
     let source = c.in_ok-configured.configured.registry in
-    let old : Shown = shows (F.contents c.args.folder.now) (F.failures c.args.folder.now) in
-    let later = F.failures c.read_registry.new.folder in
-    let after = F.failures c.build_registered-answered.new.folder in
+    let old : Shown = shows (F.device.contents c.args.folder.now) (F.device.failures c.args.folder.now) in
+    let later = F.device.failures c.read_registry.new.folder in
+    let after = F.device.failures c.build_registered-answered.new.folder in
     each_fault (IsNotBegun (registry_said tables source) c.args.invocation.now later after) (λ (fault : Fault). IsNotBuilt (registers_in tables) old c.args.invocation.now fault after)
     (λ fault why. not_built (registers_in tables) (registry_said tables source) old c.args.invocation.now fault after
     (registered tables old.contents c.into_vec-given.result.items c.args.invocation.now.properties (c.into_vec-given.ensures ∙ c.in_ok-copied.ensures) source (c.in_ok-configured.ensures.said (c.build_registered-answered.ensures.back faithful)))
-    (begun_before (registry_said tables source) c.args.invocation.now old.failures later after c.read_registry.ensures.requests.count c.build_registered-answered.ensures.count fault why))
+    (begun_before (registry_said tables source) c.args.invocation.now old.failures later after c.read_registry.ensures.reads.requests.count c.build_registered-answered.ensures.count fault why))
     c.build_registered-answered.result
     (subst (λ (given : handed.Tables _ _ _ _ _ _ _). IfErr c.build_registered-answered.result
     (IsNotBegun (registry_said (tables_of g.T.Transforms.meanings g.A.Actions.meanings given) source) c.args.invocation.now later after))
     c.in_ok-configured.ensures.tables c.build_registered-answered.ensures.not_begun))
-    (subst (λ (contents : Contents). OnErr answered.result (F.contents answered.new.folder ≡ contents)) (c.read_registry.ensures.same (c.build_registered-answered.ensures.back faithful)) (answered.ensures.refused faithful))
+    (subst (λ (contents : Contents). OnErr answered.result (F.device.contents answered.new.folder ≡ contents)) (c.read_registry.ensures.reads.same (c.build_registered-answered.ensures.back faithful)) (answered.ensures.refused faithful))
     (λ dry.
-    ap g.F.Folder.contents (c.build_registered-answered.ensures.dry dry) ∙ c.read_registry.ensures.same (c.build_registered-answered.ensures.back faithful))
+    ap g.F.Folder.device.contents (c.build_registered-answered.ensures.dry dry) ∙ c.read_registry.ensures.reads.same (c.build_registered-answered.ensures.back faithful))
     (
     let F = g.F.Folder in
     let tables = tables_of g.T.Transforms.meanings g.A.Actions.meanings c.args.tables.now in
     let source = c.in_ok-configured.configured.registry in
-    let before = F.contents c.args.folder.now in
-    invoked_keeps (registers_in tables) c.args.invocation.now c.build_registered-answered.result before (F.contents c.build_registered-answered.new.folder) (registry_said tables source)
+    let before = F.device.contents c.args.folder.now in
+    invoked_keeps (registers_in tables) c.args.invocation.now c.build_registered-answered.result before (F.device.contents c.build_registered-answered.new.folder) (registry_said tables source)
     (registered tables before c.into_vec-given.result.items c.args.invocation.now.properties (c.into_vec-given.ensures ∙ c.in_ok-copied.ensures) source (c.in_ok-configured.ensures.said (c.build_registered-answered.ensures.back faithful)))
-    (subst (λ (contents : Contents). KeepsElsewhere (registry_said tables source) contents (F.contents c.build_registered-answered.new.folder)) (c.read_registry.ensures.same (c.build_registered-answered.ensures.back faithful))
+    (subst (λ (contents : Contents). KeepsElsewhere (registry_said tables source) contents (F.device.contents c.build_registered-answered.new.folder)) (c.read_registry.ensures.reads.same (c.build_registered-answered.ensures.back faithful))
     (subst (λ (given : handed.Tables _ _ _ _ _ _ _). KeepsElsewhere (registry_said (tables_of g.T.Transforms.meanings g.A.Actions.meanings given) source)
-    (F.contents c.read_registry.new.folder) (F.contents c.build_registered-answered.new.folder))
+    (F.device.contents c.read_registry.new.folder) (F.device.contents c.build_registered-answered.new.folder))
     c.in_ok-configured.ensures.tables (c.build_registered-answered.ensures.keeps faithful)))
-    (subst (λ (contents : Contents). OnErr c.build_registered-answered.result (F.contents c.build_registered-answered.new.folder ≡ contents)) (c.read_registry.ensures.same (c.build_registered-answered.ensures.back faithful))
+    (subst (λ (contents : Contents). OnErr c.build_registered-answered.result (F.device.contents c.build_registered-answered.new.folder ≡ contents)) (c.read_registry.ensures.reads.same (c.build_registered-answered.ensures.back faithful))
     (c.build_registered-answered.ensures.refused faithful)))
     (λ kinds assumed.
     let F = g.F.Folder in
     let same = c.in_ok-configured.ensures.tables in
     let tables = tables_of g.T.Transforms.meanings g.A.Actions.meanings c.args.tables.now in
-    let first = F.may_leave c.args.folder.now in
-    let second = F.may_leave c.read_registry.new.folder in
+    let first = F.device.may_leave c.args.folder.now in
+    let second = F.device.may_leave c.read_registry.new.folder in
     let source = c.in_ok-configured.configured.registry in
-    let before = F.contents c.args.folder.now in
-    let later = F.failures c.read_registry.new.folder in
-    let new : Shown = shows (F.contents c.build_registered-answered.new.folder) (F.failures c.build_registered-answered.new.folder) in
-    since_read kinds (registry_said tables source) (registers_in tables) first second c.read_registry.ensures.requests.tearing c.args.invocation.now before (F.failures c.args.folder.now) later
-    c.read_registry.ensures.requests.count
+    let before = F.device.contents c.args.folder.now in
+    let later = F.device.failures c.read_registry.new.folder in
+    let new : Shown = shows (F.device.contents c.build_registered-answered.new.folder) (F.device.failures c.build_registered-answered.new.folder) in
+    since_read kinds (registry_said tables source) (registers_in tables) first second c.read_registry.ensures.reads.requests.tearing c.args.invocation.now before (F.device.failures c.args.folder.now) later
+    c.read_registry.ensures.reads.requests.count
     (registered tables before c.into_vec-given.result.items c.args.invocation.now.properties (c.into_vec-given.ensures ∙ c.in_ok-copied.ensures) source (c.in_ok-configured.ensures.said (c.build_registered-answered.ensures.back faithful)))
     c.build_registered-answered.result new c.build_registered-answered.ensures.count
     (subst (λ (contents : Contents). IsTransition (setting_by kinds (always (registry_said tables source)) second) (shows contents later) (events.Invoke c.args.invocation.now) (answer_of c.build_registered-answered.result) new)
-    (c.read_registry.ensures.same (c.build_registered-answered.ensures.back faithful))
+    (c.read_registry.ensures.reads.same (c.build_registered-answered.ensures.back faithful))
     (subst (λ (given : handed.Tables _ _ _ _ _ _ _). IsTransition (setting_by kinds (always (registry_said (tables_of g.T.Transforms.meanings g.A.Actions.meanings given) source)) second)
-    (shows (F.contents c.read_registry.new.folder) later) (events.Invoke c.args.invocation.now) (answer_of c.build_registered-answered.result) new)
+    (shows (F.device.contents c.read_registry.new.folder) later) (events.Invoke c.args.invocation.now) (answer_of c.build_registered-answered.result) new)
     same
     (c.build_registered-answered.ensures.leads faithful kinds
     (subst (λ (given : handed.Tables _ _ _ _ _ _ _). IsAssumed g.A.Actions.meanings given.actions kinds second) (sym same)
-    (assumed_later first second c.read_registry.ensures.requests.tearing assumed))))))
+    (assumed_later first second c.read_registry.ensures.reads.requests.tearing assumed))))))

@@ -45,15 +45,15 @@ pub returns-in_err-scripts-clause-said : goal.returns-in_err-scripts-clause-said
 returns-in_err-scripts-clause-said g c = λ faithful.
     let F = g.F.Folder in
     let settings = c.in_ok-settings.settings in
-    let files = (F.contents c.args.folder.now).files in
+    let files = (F.device.contents c.args.folder.now).files in
     let fault = c.in_err-scripts.field-0.0 in
     handed _ _ c.from_residual-in_err-scripts.result fault c.from_residual-in_err-scripts.ensures.1
     (elim (c.in_err-scripts.ensures.said faithful) [
-      | inl machine ↦ inl (machine_before _ _ _ fault c.read_settings_of.ensures.requests.count c.read_scripts.ensures.requests.count machine)
+      | inl machine ↦ inl (machine_before _ _ _ fault c.read_settings_of.ensures.reads.requests.count c.read_scripts.ensures.reads.requests.count machine)
       | inr bad ↦ inr (scripts_refused (tables_of g.T.Transforms.meanings g.A.Actions.meanings c.args.tables.now) files c.args.given.items settings
-          (c.in_ok-settings.ensures.said (c.read_scripts.ensures.back faithful)) c.in_ok-projects.ensures.faults fault (
-          scripts_here (F.contents c.read_settings_of.new.folder) (F.contents c.args.folder.now) c.as_slice.result.now (projects_of settings) (Err fault)
-          (c.read_settings_of.ensures.same (c.read_scripts.ensures.back faithful)) (c.as_slice.ensures ∙ ap with_folders c.in_ok-projects.ensures.projects) bad))
+          (c.in_ok-settings.ensures.said (c.read_scripts.ensures.reads.requests.back faithful)) c.in_ok-projects.ensures.faults fault (
+          scripts_here (F.device.contents c.read_settings_of.new.folder) (F.device.contents c.args.folder.now) c.as_slice.result.now (projects_of settings) (Err fault)
+          (c.read_settings_of.ensures.reads.same (c.read_scripts.ensures.reads.requests.back faithful)) (c.as_slice.ensures ∙ ap with_folders c.in_ok-projects.ensures.projects) bad))
     ])
 
 pub configure_projects-requires : goal.configure_projects-requires
@@ -80,14 +80,14 @@ pub returns-clause-said : goal.returns-clause-said
 returns-clause-said g c = λ faithful.
     let F = g.F.Folder in
     let tables = tables_of g.T.Transforms.meanings g.A.Actions.meanings c.args.tables.now in
-    let files = (F.contents c.args.folder.now).files in
+    let files = (F.device.contents c.args.folder.now).files in
     let settings = c.in_ok-settings.settings in
     let texts = c.in_ok-scripts.scripts.items in
     let given = c.args.given.items in
     let projects = c.in_ok-projects.ensures.projects in
-    put_together tables files given settings (c.in_ok-settings.ensures.said (c.read_scripts.ensures.back faithful)) c.in_ok-projects.ensures.faults texts _ _ c.configure_projects.result (λ configured. configured.registry)
-    (scripts_here (F.contents c.read_settings_of.new.folder) (F.contents c.args.folder.now) c.as_slice.result.now (projects_of settings) (Ok texts)
-    (c.read_settings_of.ensures.same (c.read_scripts.ensures.back faithful)) (c.as_slice.ensures ∙ ap with_folders projects) (c.in_ok-scripts.ensures.said faithful))
+    put_together tables files given settings (c.in_ok-settings.ensures.said (c.read_scripts.ensures.reads.requests.back faithful)) c.in_ok-projects.ensures.faults texts _ _ c.configure_projects.result (λ configured. configured.registry)
+    (scripts_here (F.device.contents c.read_settings_of.new.folder) (F.device.contents c.args.folder.now) c.as_slice.result.now (projects_of settings) (Ok texts)
+    (c.read_settings_of.ensures.reads.same (c.read_scripts.ensures.reads.requests.back faithful)) (c.as_slice.ensures ∙ ap with_folders projects) (c.in_ok-scripts.ensures.said faithful))
     (subst (λ (paths : List Path). IfOk c.configure_projects.result (λ configured. configured.registry ≡ source_with paths texts given)) projects c.configure_projects.ensures.registry)
     (subst (λ (paths : List Path). ReportsFirst (configure_faults tables (source_with paths texts given)) c.configure_projects.result) projects c.configure_projects.ensures.faults)
 
@@ -100,10 +100,10 @@ returns-clause-declared g c =
     let texts = c.in_ok-scripts.scripts.items in
     let given = c.args.given.items in
     let projects = c.in_ok-projects.ensures.projects in
-    declared_here F.failures F.may_leave F.allowed tables given old new c.in_ok-settings.settings texts c.configure_projects.result (λ configured. configured.registry)
-    (parsed_longer SaysAsSettings (requests_nothing old) c.read_scripts.ensures.requests settings_place c.in_ok-settings.settings c.in_ok-settings.ensures.parsed)
+    declared_here F.device tables given old new c.in_ok-settings.settings texts c.configure_projects.result (λ configured. configured.registry)
+    (parsed_longer SaysAsSettings (requests_nothing old) c.read_scripts.ensures.reads.requests settings_place c.in_ok-settings.settings c.in_ok-settings.ensures.parsed)
     c.in_ok-projects.ensures.faults
-    (subst (λ (ps : List (Path × Option Place)). WereParsed F.failures F.may_leave F.allowed old new (script_places ps) texts) (c.as_slice.ensures ∙ ap with_folders projects)
-    (all_parsed_longer c.read_settings_of.ensures.requests (requests_nothing new) _ texts c.in_ok-scripts.ensures.parsed))
+    (subst (λ (ps : List (Path × Option Place)). WereParsed F.device old new (script_places ps) texts) (c.as_slice.ensures ∙ ap with_folders projects)
+    (all_parsed_longer c.read_settings_of.ensures.reads.requests (requests_nothing new) _ texts c.in_ok-scripts.ensures.parsed))
     (subst (λ (paths : List Path). IfOk c.configure_projects.result (λ configured. configured.registry ≡ source_with paths texts given)) projects c.configure_projects.ensures.registry)
     (subst (λ (paths : List Path). ReportsFirst (configure_faults tables (source_with paths texts given)) c.configure_projects.result) projects c.configure_projects.ensures.faults)

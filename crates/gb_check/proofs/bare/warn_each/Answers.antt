@@ -16,12 +16,12 @@ loop-rooted-preserved g c =
     let outputs = c.args.outputs.now in
     let rooted = c.rooted-item.result in
     let before = c.loop-rooted.found.items in
-    let back = c.push_rooted.ensures.back in
-    let of = bare_root sites (F.contents c.args.folder.now) outputs in
+    let back = c.push_rooted.ensures.reads.requests.back in
+    let of = bare_root sites (F.device.contents c.args.folder.now) outputs in
     record {
-      requests = requests_then c.loop-rooted.invariant.requests c.push_rooted.ensures.requests;
+      requests = requests_then c.loop-rooted.invariant.requests c.push_rooted.ensures.reads.requests;
       back = λ known. c.loop-rooted.invariant.back (back known);
-      same = λ faithful. c.push_rooted.ensures.same faithful ∙ c.loop-rooted.invariant.same (back faithful);
+      same = λ faithful. c.push_rooted.ensures.reads.same faithful ∙ c.loop-rooted.invariant.same (back faithful);
       found = λ faithful.
           c.in_ok-push_rooted.ensures.found faithful
           ∙ ap (λ (contents : Contents). before ++ bare_root sites contents outputs rooted) (c.loop-rooted.invariant.same (back faithful))
@@ -31,7 +31,7 @@ loop-rooted-preserved g c =
 
 pub returns-in_err-push_rooted-clause-err : goal.returns-in_err-push_rooted-clause-err
 returns-in_err-push_rooted-clause-err g c = λ faithful.
-    let failures = g.F.Folder.failures in
+    let failures = g.F.Folder.device.failures in
     let fault = c.in_err-push_rooted.field-0.0 in
     handed (IsOfMachine (failures c.args.folder.now) (failures c.push_rooted.new.folder)) c.from_residual.result fault c.from_residual.ensures.1
-    (machine_before _ _ _ fault c.loop-rooted.invariant.requests.count c.push_rooted.ensures.requests.count (c.in_err-push_rooted.ensures.err faithful))
+    (machine_before _ _ _ fault c.loop-rooted.invariant.requests.count c.push_rooted.ensures.reads.requests.count (c.in_err-push_rooted.ensures.err faithful))

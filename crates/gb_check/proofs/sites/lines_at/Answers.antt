@@ -5,7 +5,7 @@ use Rattle.gb_check.proofs.sites.lines_at.Goals as goal
 
 pub returns-in-Ok-clause-err : goal.returns-in-Ok-clause-err
 returns-in-Ok-clause-err g c = λ faithful.
-    let files = (g.F.Folder.contents c.args.folder.now).files in
+    let files = (g.F.Folder.device.contents c.args.folder.now).files in
     IfErr-weaker c.lines_in.result _ _
     (λ fault why. no_script_there files c.args.place.now _ _ c.as_slice.result.now fault (c.in-Ok.ensures.found faithful ∙ ap Some (sym c.as_slice.ensures.value)) why)
     c.lines_in.ensures.err
@@ -14,11 +14,9 @@ pub returns-in_default : goal.returns-in_default
 returns-in_default g c =
     let read = c.in-Err.ensures in
     record {
-      requests = read.requests;
-      back = read.back;
-      same = read.same;
+      reads = record { requests = read.requests; same = read.same };
       lines = λ faithful. tt;
       err = λ faithful.
-          unread_there (g.F.Folder.contents c.args.folder.now).files c.args.place.now _ _ c.in-Err.fault c.unread.result c.unread.ensures
-          (λ e. read.device (ap Err e)) c.in_default.not-Missing (λ e. read.blocked faithful (ap Err e)) (λ e. read.large faithful (ap Err e)) (λ e. read.not_named (ap Err e));
+          unread_there (g.F.Folder.device.contents c.args.folder.now).files c.args.place.now _ _ c.in-Err.fault c.unread.result c.unread.ensures
+          (λ e. read.risen (ap Err e)) c.in_default.not-Missing (λ e. read.blocked faithful (ap Err e)) (λ e. read.large faithful (ap Err e)) (λ e. read.not_named (ap Err e));
     }

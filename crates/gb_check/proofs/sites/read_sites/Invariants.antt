@@ -9,12 +9,12 @@ use Rattle.gb_check.proofs.sites.read_sites.Given as goal
 
 abbrev pub invariant-loop-scripted : goal.invariant-loop-scripted
 invariant-loop-scripted g l =
-    let contents = g.F.Folder.contents in
-    let faithful = g.F.Folder.faithful in
+    let contents = g.F.Folder.device.contents in
+    let faithful = g.F.Folder.device.faithful in
     let files = (contents l.fn.folder).files in
     let tables = tables_of g.T.Transforms.meanings g.A.Actions.meanings l.tables in
     record {
-      requests : Requests g.F.Folder.failures g.F.Folder.may_leave g.F.Folder.allowed no_change l.fn.folder l.folder;
+      requests : Requests g.F.Folder.device no_change l.fn.folder l.folder;
       back : faithful l.folder → faithful l.fn.folder;
       same : faithful l.folder → contents l.folder ≡ contents l.fn.folder;
       sites : (later : _) → (faithful later → faithful l.folder) → (others : List Site) (words : List ClauseMark)

@@ -46,17 +46,17 @@ returns-then-options-clause-printed g c =
 pub returns-then-options-clause-device : goal.returns-then-options-clause-device
 returns-then-options-clause-device g c =
     let F = g.F.Folder in
-    subst (λ (rs : List TaskReport). HasFailed (times_blamed rs) (F.failures c.args.folder.now) (F.failures c.args.folder.now)) (sym (c.with_reports.ensures.tasks ∙ c.in_ok-dry_reports.ensures ∙ ap dry_reports c.as_slice-tasks.ensures))
-    (dry_blames c.args.plan.now (F.failures c.args.folder.now))
+    subst (λ (rs : List TaskReport). HasFailed (times_blamed rs) (F.device.failures c.args.folder.now) (F.device.failures c.args.folder.now)) (sym (c.with_reports.ensures.tasks ∙ c.in_ok-dry_reports.ensures ∙ ap dry_reports c.as_slice-tasks.ensures))
+    (dry_blames c.args.plan.now (F.device.failures c.args.folder.now))
 
 pub returns-then-options-clause-build : goal.returns-then-options-clause-build
 returns-then-options-clause-build g c = λ faithful kinds registry_of remembered clear observed assumed worth.
     let F = g.F.Folder in
     let start = c.args.folder.now in
-    let old : State = record { contents = F.contents start; remembered = remembered; failures = F.failures start } in
-    subst (λ (rs : List TaskReport). HasBuilt (setting_with kinds registry_of (F.may_leave start)) clear observed c.args.options c.args.plan.now old rs (record { contents = F.contents start; failures = F.failures start }))
+    let old : State = record { contents = F.device.contents start; remembered = remembered; failures = F.device.failures start } in
+    subst (λ (rs : List TaskReport). HasBuilt (setting_with kinds registry_of (F.device.may_leave start)) clear observed c.args.options c.args.plan.now old rs (record { contents = F.device.contents start; failures = F.device.failures start }))
     (sym (c.with_reports.ensures.tasks ∙ c.in_ok-dry_reports.ensures ∙ ap dry_reports c.as_slice-tasks.ensures))
-    (dry_built kinds registry_of (F.may_leave start) clear observed c.args.options c.args.plan.now old c.if-options.true (λ e. (worth e).existing))
+    (dry_built kinds registry_of (F.device.may_leave start) clear observed c.args.options c.args.plan.now old c.if-options.true (λ e. (worth e).existing))
 
 pub returns-clause-outline : goal.returns-clause-outline
 returns-clause-outline g c =
@@ -88,36 +88,36 @@ returns-clause-printed g c =
 pub returns-clause-changes : goal.returns-clause-changes
 returns-clause-changes g c = λ faithful.
     let F = g.F.Folder in
-    subst (λ (ps : List Planned). ChangesOnly (is_of_executions ps) (F.contents c.args.folder.now) (F.contents c.execute_tasks-all_heard.new.folder)) c.as_slice-tasks.ensures
+    subst (λ (ps : List Planned). ChangesOnly (is_of_executions ps) (F.device.contents c.args.folder.now) (F.device.contents c.execute_tasks-all_heard.new.folder)) c.as_slice-tasks.ensures
     (c.execute_tasks-all_heard.ensures.changes faithful)
 
 pub returns-then-options-clause-requests : goal.returns-then-options-clause-requests
 returns-then-options-clause-requests g c =
     let F = g.F.Folder in
-    subst (λ (rs : List TaskReport). ExecutionsRequest F.failures F.may_leave F.allowed g.A.Actions.meanings c.args.table.now c.args.options c.args.plan.now c.args.records.now rs c.args.folder.now c.args.folder.now c.args.folder.now)
+    subst (λ (rs : List TaskReport). ExecutionsRequest F.device g.A.Actions.meanings c.args.table.now c.args.options c.args.plan.now c.args.records.now rs c.args.folder.now c.args.folder.now c.args.folder.now)
     (sym (c.with_reports.ensures.tasks ∙ c.in_ok-dry_reports.ensures ∙ ap dry_reports c.as_slice-tasks.ensures))
-    (dry_requests F.failures F.may_leave F.allowed g.A.Actions.meanings c.args.table.now c.args.options c.args.plan.now c.args.records.now c.args.folder.now c.requires.each)
+    (dry_requests F.device g.A.Actions.meanings c.args.table.now c.args.options c.args.plan.now c.args.records.now c.args.folder.now c.requires.each)
 
 pub returns-clause-requests : goal.returns-clause-requests
 returns-clause-requests g c =
     let F = g.F.Folder in
     let start = c.args.folder.now in
-    subst (λ (rs : List TaskReport). ExecutionsRequest F.failures F.may_leave F.allowed g.A.Actions.meanings c.args.table.now c.args.options c.args.plan.now c.args.records.now rs start start c.execute_tasks-all_heard.new.folder) (sym c.with_reports-2.ensures.tasks)
-    (subst (λ (ps : List Planned). ExecutionsRequest F.failures F.may_leave F.allowed g.A.Actions.meanings c.args.table.now c.args.options ps c.args.records.now c.execute_tasks-all_heard.new.reports.items start start c.execute_tasks-all_heard.new.folder)
+    subst (λ (rs : List TaskReport). ExecutionsRequest F.device g.A.Actions.meanings c.args.table.now c.args.options c.args.plan.now c.args.records.now rs start start c.execute_tasks-all_heard.new.folder) (sym c.with_reports-2.ensures.tasks)
+    (subst (λ (ps : List Planned). ExecutionsRequest F.device g.A.Actions.meanings c.args.table.now c.args.options ps c.args.records.now c.execute_tasks-all_heard.new.reports.items start start c.execute_tasks-all_heard.new.folder)
     c.as_slice-tasks.ensures c.execute_tasks-all_heard.ensures.requests)
 
 pub returns-clause-count : goal.returns-clause-count
 returns-clause-count g c =
     let F = g.F.Folder in
     let start = c.args.folder.now in
-    (executions_places F.failures F.may_leave F.allowed g.A.Actions.meanings c.args.table.now c.args.options c.args.plan.now c.args.records.now c.execute_tasks-all_heard.new.reports.items start start c.execute_tasks-all_heard.new.folder
-    (subst (λ (ps : List Planned). ExecutionsRequest F.failures F.may_leave F.allowed g.A.Actions.meanings c.args.table.now c.args.options ps c.args.records.now c.execute_tasks-all_heard.new.reports.items start start c.execute_tasks-all_heard.new.folder)
+    (executions_places F.device g.A.Actions.meanings c.args.table.now c.args.options c.args.plan.now c.args.records.now c.execute_tasks-all_heard.new.reports.items start start c.execute_tasks-all_heard.new.folder
+    (subst (λ (ps : List Planned). ExecutionsRequest F.device g.A.Actions.meanings c.args.table.now c.args.options ps c.args.records.now c.execute_tasks-all_heard.new.reports.items start start c.execute_tasks-all_heard.new.folder)
     c.as_slice-tasks.ensures c.execute_tasks-all_heard.ensures.requests)).count
 
 pub returns-clause-tearing : goal.returns-clause-tearing
 returns-clause-tearing g c =
     let F = g.F.Folder in
     let start = c.args.folder.now in
-    (executions_places F.failures F.may_leave F.allowed g.A.Actions.meanings c.args.table.now c.args.options c.args.plan.now c.args.records.now c.execute_tasks-all_heard.new.reports.items start start c.execute_tasks-all_heard.new.folder
-    (subst (λ (ps : List Planned). ExecutionsRequest F.failures F.may_leave F.allowed g.A.Actions.meanings c.args.table.now c.args.options ps c.args.records.now c.execute_tasks-all_heard.new.reports.items start start c.execute_tasks-all_heard.new.folder)
+    (executions_places F.device g.A.Actions.meanings c.args.table.now c.args.options c.args.plan.now c.args.records.now c.execute_tasks-all_heard.new.reports.items start start c.execute_tasks-all_heard.new.folder
+    (subst (λ (ps : List Planned). ExecutionsRequest F.device g.A.Actions.meanings c.args.table.now c.args.options ps c.args.records.now c.execute_tasks-all_heard.new.reports.items start start c.execute_tasks-all_heard.new.folder)
     c.as_slice-tasks.ensures c.execute_tasks-all_heard.ensures.requests)).tearing

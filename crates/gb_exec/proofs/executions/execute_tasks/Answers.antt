@@ -88,17 +88,17 @@ loop-path-init g c =
       heard = subst (λ (rs : List TaskReport). AllReported (heard_of false rs) true ears ears) (sym none) (unnotified ears);
       printed = subst (λ (rs : List TaskReport). Prints P.contents P.whole (flat_map task_text rs) c.args.printer.now c.args.printer.now) (sym none)
           (prints_nothing P.contents P.whole c.args.printer.now);
-      requests = subst (λ (rs : List TaskReport). AreSoFar F.failures F.may_leave F.allowed g.A.Actions.meanings c.args.build.now.table.now c.args.build.now.options [] [] rs start start c.new-seen.result) (sym none)
-          (none_so_far F.failures F.may_leave F.allowed g.A.Actions.meanings c.args.build.now.table.now c.args.build.now.options start c.new-seen.result c.new-seen.ensures);
+      requests = subst (λ (rs : List TaskReport). AreSoFar F.device g.A.Actions.meanings c.args.build.now.table.now c.args.build.now.options [] [] rs start start c.new-seen.result) (sym none)
+          (none_so_far F.device g.A.Actions.meanings c.args.build.now.table.now c.args.build.now.options start c.new-seen.result c.new-seen.ensures);
       back = λ known. known;
-      seen_in = λ faithful. none_seen_in (F.contents start).files c.new-seen.result c.new-seen.ensures;
-      device = subst (λ (rs : List TaskReport). HasFailed (times_blamed rs) (F.failures start) (F.failures start)) (sym none) (inl (omega arith));
-      changes = λ faithful. changes_none (is_of_executions []) (F.contents start) (F.contents start) refl;
+      seen_in = λ faithful. none_seen_in (F.device.contents start).files c.new-seen.result c.new-seen.ensures;
+      device = subst (λ (rs : List TaskReport). HasFailed (times_blamed rs) (F.device.failures start) (F.device.failures start)) (sym none) (inl (omega arith));
+      changes = λ faithful. changes_none (is_of_executions []) (F.device.contents start) (F.device.contents start) refl;
       build = λ faithful kinds registry_of remembered clear observed assumed worth.
-          let old : State = record { contents = F.contents start; remembered = remembered; failures = F.failures start } in
-          subst (λ (rs : List TaskReport). IsUnderway kinds registry_of (F.may_leave start) clear observed c.args.build.now.options tasks old [] tasks rs
-          (record { contents = F.contents start; failures = F.failures start })) (sym none)
-          (begun kinds registry_of (F.may_leave start) clear observed c.args.build.now.options tasks old (λ e. (worth e).existing));
+          let old : State = record { contents = F.device.contents start; remembered = remembered; failures = F.device.failures start } in
+          subst (λ (rs : List TaskReport). IsUnderway kinds registry_of (F.device.may_leave start) clear observed c.args.build.now.options tasks old [] tasks rs
+          (record { contents = F.device.contents start; failures = F.device.failures start })) (sym none)
+          (begun kinds registry_of (F.device.may_leave start) clear observed c.args.build.now.options tasks old (λ e. (worth e).existing));
     }
 
 pub execute_one-taken-requires-clause-path : goal.execute_one-taken-requires-clause-path
@@ -130,10 +130,10 @@ loop-path-preserved g c =
     let of_task = c.execute_one-taken.ensures.of_task planned is in
     let remembered_now = c.execute_one-taken.new.seen in
     let far = inv.requests in
-    let way = executions_places F.failures F.may_leave F.allowed g.A.Actions.meanings build.table.now build.options (take i tasks) (take i build.records.now) reports start start now
-    (executions_until F.failures F.may_leave F.allowed g.A.Actions.meanings build.table.now build.options (take i tasks) (take i build.records.now) reports start start far.last now far.executions) in
+    let way = executions_places F.device g.A.Actions.meanings build.table.now build.options (take i tasks) (take i build.records.now) reports start start now
+    (executions_until F.device g.A.Actions.meanings build.table.now build.options (take i tasks) (take i build.records.now) reports start start far.last now far.executions) in
     let taken = c.execute_one-taken.ensures.requests planned is far.last far.none far.were in
-    let count = (execution_places F.failures F.may_leave F.allowed g.A.Actions.meanings build.table.now build.options planned.task (slice_index_or build.records.now i None) report.lines far.last now next
+    let count = (execution_places F.device g.A.Actions.meanings build.table.now build.options planned.task (slice_index_or build.records.now i None) report.lines far.last now next
     report.outcome taken).count in
     let read = take_more build.records.now i None (omega (arith, c.requires.each, less)) in
     let can = each_at (λ (p : Planned). IsBuildable g.A.Actions.meanings build.table.now p.task) tasks i planned is c.requires.can.tasks in
@@ -179,37 +179,37 @@ loop-path-preserved g c =
       printed = subst (λ (rs : List TaskReport). Prints P.contents P.whole (flat_map task_text rs) c.args.printer.now c.print_task.new.self) (sym items)
           (subst (λ (text : List ℕ). Prints P.contents P.whole text c.args.printer.now c.print_task.new.self) (sym (parts_more reports report))
           (prints_more P.contents P.whole (flat_map task_text reports) (task_text report) c.args.printer.now c.loop-path.printer c.print_task.new.self inv.printed c.print_task.ensures));
-      requests = subst (λ (ps : List Planned). AreSoFar F.failures F.may_leave F.allowed g.A.Actions.meanings build.table.now build.options ps (take (i + 1) build.records.now) c.push_reserved.new.reports.items start next remembered_now) (sym take_is)
-          (subst (λ (last : List (Option Record)). AreSoFar F.failures F.may_leave F.allowed g.A.Actions.meanings build.table.now build.options (take i tasks ++ planned ∷ []) last c.push_reserved.new.reports.items start next remembered_now) (sym read)
-          (subst (λ (rs : List TaskReport). AreSoFar F.failures F.may_leave F.allowed g.A.Actions.meanings build.table.now build.options (take i tasks ++ planned ∷ []) (take i build.records.now ++ slice_index_or build.records.now i None ∷ []) rs start next remembered_now) (sym items)
-          (more_so_far F.failures F.may_leave F.allowed g.A.Actions.meanings build.table.now build.options (take i tasks) (take i build.records.now) reports start now c.loop-path.seen far planned (slice_index_or build.records.now i None) report next remembered_now
+      requests = subst (λ (ps : List Planned). AreSoFar F.device g.A.Actions.meanings build.table.now build.options ps (take (i + 1) build.records.now) c.push_reserved.new.reports.items start next remembered_now) (sym take_is)
+          (subst (λ (last : List (Option Record)). AreSoFar F.device g.A.Actions.meanings build.table.now build.options (take i tasks ++ planned ∷ []) last c.push_reserved.new.reports.items start next remembered_now) (sym read)
+          (subst (λ (rs : List TaskReport). AreSoFar F.device g.A.Actions.meanings build.table.now build.options (take i tasks ++ planned ∷ []) (take i build.records.now ++ slice_index_or build.records.now i None ∷ []) rs start next remembered_now) (sym items)
+          (more_so_far F.device g.A.Actions.meanings build.table.now build.options (take i tasks) (take i build.records.now) reports start now c.loop-path.seen far planned (slice_index_or build.records.now i None) report next remembered_now
           taken (c.execute_one-taken.ensures.seen far.last far.none far.were))));
       back = λ known. inv.back (c.execute_one-taken.ensures.back known);
       seen_in = λ faithful. c.execute_one-taken.ensures.seen_in faithful (inv.seen_in (c.execute_one-taken.ensures.back faithful));
-      device = subst (λ (rs : List TaskReport). HasFailed (times_blamed rs) (F.failures start) (F.failures next)) (sym items)
-          (failed_more reports report (F.failures start) (F.failures now) (F.failures next) inv.device count c.execute_one-taken.ensures.blame);
+      device = subst (λ (rs : List TaskReport). HasFailed (times_blamed rs) (F.device.failures start) (F.device.failures next)) (sym items)
+          (failed_more reports report (F.device.failures start) (F.device.failures now) (F.device.failures next) inv.device count c.execute_one-taken.ensures.blame);
       changes = λ faithful.
-          subst (λ (ps : List Planned). ChangesOnly (is_of_executions ps) (F.contents start) (F.contents next)) (sym take_is)
-          (changes_more (take i tasks) planned (F.contents start) (F.contents now) (F.contents next) (inv.changes (c.execute_one-taken.ensures.back faithful)) (c.execute_one-taken.ensures.changes faithful planned is));
+          subst (λ (ps : List Planned). ChangesOnly (is_of_executions ps) (F.device.contents start) (F.device.contents next)) (sym take_is)
+          (changes_more (take i tasks) planned (F.device.contents start) (F.device.contents now) (F.device.contents next) (inv.changes (c.execute_one-taken.ensures.back faithful)) (c.execute_one-taken.ensures.changes faithful planned is));
       build = λ faithful kinds registry_of remembered clear observed assumed worth.
-          let old : State = record { contents = F.contents start; remembered = remembered; failures = F.failures start } in
-          let u = subst (λ (ps : List Planned). IsUnderway kinds registry_of (F.may_leave start) clear observed build.options tasks old (take i tasks) ps reports
-          (record { contents = F.contents now; failures = F.failures now })) (drop_at tasks i planned is) (inv.build (c.execute_one-taken.ensures.back faithful) kinds registry_of remembered clear observed assumed worth) in
+          let old : State = record { contents = F.device.contents start; remembered = remembered; failures = F.device.failures start } in
+          let u = subst (λ (ps : List Planned). IsUnderway kinds registry_of (F.device.may_leave start) clear observed build.options tasks old (take i tasks) ps reports
+          (record { contents = F.device.contents now; failures = F.device.failures now })) (drop_at tasks i planned is) (inv.build (c.execute_one-taken.ensures.back faithful) kinds registry_of remembered clear observed assumed worth) in
           let changes = c.execute_one-taken.ensures.changes faithful planned is in
-          subst (λ (ps : List Planned). IsUnderway kinds registry_of (F.may_leave start) clear observed build.options tasks old ps (drop (i + 1) tasks) c.push_reserved.new.reports.items
-          (record { contents = F.contents next; failures = F.failures next })) (sym take_is)
-          (subst (λ (rs : List TaskReport). IsUnderway kinds registry_of (F.may_leave start) clear observed build.options tasks old (take i tasks ++ planned ∷ []) (drop (i + 1) tasks) rs
-          (record { contents = F.contents next; failures = F.failures next })) (sym items)
-          (goes_on kinds registry_of (F.may_leave start) clear observed build.options tasks old (take i tasks) (drop (i + 1) tasks) planned (whole_at tasks i planned is) reports
-          (record { contents = F.contents now; failures = F.failures now }) u report (record { contents = F.contents next; failures = F.failures next }) count
-          (g.met.F.Folder.sound next) (differs_outside planned.task (F.contents now).files (F.contents next).files changes.elsewhere) changes.special c.requires.can.sound.outputs_separate
-          (F.may_leave now) way.tearing (once_after (take i tasks) (drop (i + 1) tasks) planned (subst (λ (ps : List Planned). no_repeats (order ps) ≡ true) (whole_at tasks i planned is) c.requires.can.once))
+          subst (λ (ps : List Planned). IsUnderway kinds registry_of (F.device.may_leave start) clear observed build.options tasks old ps (drop (i + 1) tasks) c.push_reserved.new.reports.items
+          (record { contents = F.device.contents next; failures = F.device.failures next })) (sym take_is)
+          (subst (λ (rs : List TaskReport). IsUnderway kinds registry_of (F.device.may_leave start) clear observed build.options tasks old (take i tasks ++ planned ∷ []) (drop (i + 1) tasks) rs
+          (record { contents = F.device.contents next; failures = F.device.failures next })) (sym items)
+          (goes_on kinds registry_of (F.device.may_leave start) clear observed build.options tasks old (take i tasks) (drop (i + 1) tasks) planned (whole_at tasks i planned is) reports
+          (record { contents = F.device.contents now; failures = F.device.failures now }) u report (record { contents = F.device.contents next; failures = F.device.failures next }) count
+          (g.met.F.Folder.sound next) (differs_outside planned.task (F.device.contents now).files (F.device.contents next).files changes.elsewhere) changes.special c.requires.can.sound.outputs_separate
+          (F.device.may_leave now) way.tearing (once_after (take i tasks) (drop (i + 1) tasks) planned (subst (λ (ps : List Planned). no_repeats (order ps) ≡ true) (whole_at tasks i planned is) c.requires.can.once))
           (λ given still.
-          c.execute_one-taken.ensures.execution faithful (inv.seen_in (c.execute_one-taken.ensures.back faithful)) kinds registry_of u.moment planned is (assumed_later (F.may_leave start) (F.may_leave now) way.tearing assumed) u.folder u.failures still.existing
+          c.execute_one-taken.ensures.execution faithful (inv.seen_in (c.execute_one-taken.ensures.back faithful)) kinds registry_of u.moment planned is (assumed_later (F.device.may_leave start) (F.device.may_leave now) way.tearing assumed) u.folder u.failures still.existing
           (subst (λ (os : List (Path × Outcome)). AreEndings tasks os c.loop-path.starts.endings) (sym u.outcomes) inv.endings)
-          (knows c.what_is_read_is_known.ensures kinds tasks build.records.now observed u.observed_now (F.contents start) remembered u.moment.world i planned is (worth given.0) is_path still.same.0
-          (subst (λ (folder : Contents). IsFolder folder.files) (sym u.folder) (folder_where (λ place. not (is_own place)) (F.contents now).files (g.met.F.Folder.sound now)))
-          (subst (λ (folder : Contents). IsTrue (are_placed folder.files)) (sym u.folder) (placed_where (λ place. not (is_own place)) (F.contents now).files (g.met.F.Folder.placed now)))
+          (knows c.what_is_read_is_known.ensures kinds tasks build.records.now observed u.observed_now (F.device.contents start) remembered u.moment.world i planned is (worth given.0) is_path still.same.0
+          (subst (λ (folder : Contents). IsFolder folder.files) (sym u.folder) (folder_where (λ place. not (is_own place)) (F.device.contents now).files (g.met.F.Folder.sound now)))
+          (subst (λ (folder : Contents). IsTrue (are_placed folder.files)) (sym u.folder) (placed_where (λ place. not (is_own place)) (F.device.contents now).files (g.met.F.Folder.placed now)))
           can.not_own u.keeps given.1))
           (inv.places, is_path, inv.changes (c.execute_one-taken.ensures.back faithful))));
     }
@@ -244,13 +244,13 @@ returns-clause-build g c = λ faithful kinds registry_of remembered clear observ
     let mapped : length (order (drop i tasks)) ≡ length (drop i tasks) = length-map _ _ in
     let dropped : length (drop i tasks) ≡ length tasks - i = length-drop i tasks in
     let all : length tasks ≤ i = omega (arith, empty, ap length inv.left, mapped, dropped) in
-    let old : State = record { contents = F.contents start; remembered = remembered; failures = F.failures start } in
-    built kinds registry_of (F.may_leave start) clear observed c.args.build.now.options tasks old c.loop-path.reports.items
-    (record { contents = F.contents c.loop-path.folder; failures = F.failures c.loop-path.folder }) c.requires.not_dry
-    (subst (λ (ps : List Planned). IsUnderway kinds registry_of (F.may_leave start) clear observed c.args.build.now.options tasks old ps [] c.loop-path.reports.items
-    (record { contents = F.contents c.loop-path.folder; failures = F.failures c.loop-path.folder })) (take_all i tasks all)
-    (subst (λ (ps : List Planned). IsUnderway kinds registry_of (F.may_leave start) clear observed c.args.build.now.options tasks old (take i tasks) ps c.loop-path.reports.items
-    (record { contents = F.contents c.loop-path.folder; failures = F.failures c.loop-path.folder })) (drop_all i tasks all)
+    let old : State = record { contents = F.device.contents start; remembered = remembered; failures = F.device.failures start } in
+    built kinds registry_of (F.device.may_leave start) clear observed c.args.build.now.options tasks old c.loop-path.reports.items
+    (record { contents = F.device.contents c.loop-path.folder; failures = F.device.failures c.loop-path.folder }) c.requires.not_dry
+    (subst (λ (ps : List Planned). IsUnderway kinds registry_of (F.device.may_leave start) clear observed c.args.build.now.options tasks old ps [] c.loop-path.reports.items
+    (record { contents = F.device.contents c.loop-path.folder; failures = F.device.failures c.loop-path.folder })) (take_all i tasks all)
+    (subst (λ (ps : List Planned). IsUnderway kinds registry_of (F.device.may_leave start) clear observed c.args.build.now.options tasks old (take i tasks) ps c.loop-path.reports.items
+    (record { contents = F.device.contents c.loop-path.folder; failures = F.device.failures c.loop-path.folder })) (drop_all i tasks all)
     (inv.build faithful kinds registry_of remembered clear observed assumed worth)))
 
 pub returns-clause-requests : goal.returns-clause-requests
@@ -265,7 +265,7 @@ returns-clause-requests g c =
     let mapped : length (order (drop i tasks)) ≡ length (drop i tasks) = length-map _ _ in
     let dropped : length (drop i tasks) ≡ length tasks - i = length-drop i tasks in
     let all : length tasks ≤ i = omega (arith, empty, ap length c.loop-path.invariant.left, mapped, dropped) in
-    subst (λ (ps : List Planned). ExecutionsRequest F.failures F.may_leave F.allowed g.A.Actions.meanings build.table.now build.options ps build.records.now c.loop-path.reports.items start start c.loop-path.folder) (take_all i tasks all)
-    (subst (λ (read : List (Option Record)). ExecutionsRequest F.failures F.may_leave F.allowed g.A.Actions.meanings build.table.now build.options (take i tasks) read c.loop-path.reports.items start start c.loop-path.folder)
+    subst (λ (ps : List Planned). ExecutionsRequest F.device g.A.Actions.meanings build.table.now build.options ps build.records.now c.loop-path.reports.items start start c.loop-path.folder) (take_all i tasks all)
+    (subst (λ (read : List (Option Record)). ExecutionsRequest F.device g.A.Actions.meanings build.table.now build.options (take i tasks) read c.loop-path.reports.items start start c.loop-path.folder)
     (take_all i build.records.now (omega (arith, all, c.requires.each)))
-    (executions_until F.failures F.may_leave F.allowed g.A.Actions.meanings build.table.now build.options (take i tasks) (take i build.records.now) c.loop-path.reports.items start start far.last c.loop-path.folder far.executions))
+    (executions_until F.device g.A.Actions.meanings build.table.now build.options (take i tasks) (take i build.records.now) c.loop-path.reports.items start start far.last c.loop-path.folder far.executions))

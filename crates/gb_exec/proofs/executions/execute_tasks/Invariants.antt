@@ -47,14 +47,14 @@ invariant-loop-path g l =
       places : AllByRecursion HasOwnPlaces done;
       heard : AllReported (heard_of false l.reports.items) l.all_heard (map ear l.fn.listeners.items) (map ear l.listeners.items);
       printed : Prints P.contents P.whole (flat_map task_text l.reports.items) l.fn.printer l.printer;
-      requests : AreSoFar F.failures F.may_leave F.allowed g.A.Actions.meanings l.build.table.now l.build.options done (take l.index l.build.records.now) l.reports.items start l.folder l.seen;
-      back : F.faithful l.folder → F.faithful start;
-      seen_in : F.faithful l.folder → AreSeenIn (F.contents l.folder).files l.seen;
-      device : HasFailed (times_blamed l.reports.items) (F.failures start) (F.failures l.folder);
-      changes : F.faithful l.folder → ChangesOnly (is_of_executions done) (F.contents start) (F.contents l.folder);
-      build : F.faithful l.folder → (kinds : Kinds) (registry_of : Registering) (remembered : Memory) (clear : Bool) (observed : List Bytes) → IsAssumed g.A.Actions.meanings l.build.table.now kinds (F.may_leave start)
-          → (IsTrue clear → AreTrueBefore kinds tasks l.build.records.now observed (F.contents start) remembered)
-          → IsUnderway kinds registry_of (F.may_leave start) clear observed l.build.options tasks
-          (record { contents = F.contents start; remembered = remembered; failures = F.failures start }) done (drop l.index tasks) l.reports.items
-          (record { contents = F.contents l.folder; failures = F.failures l.folder });
+      requests : AreSoFar F.device g.A.Actions.meanings l.build.table.now l.build.options done (take l.index l.build.records.now) l.reports.items start l.folder l.seen;
+      back : F.device.faithful l.folder → F.device.faithful start;
+      seen_in : F.device.faithful l.folder → AreSeenIn (F.device.contents l.folder).files l.seen;
+      device : HasFailed (times_blamed l.reports.items) (F.device.failures start) (F.device.failures l.folder);
+      changes : F.device.faithful l.folder → ChangesOnly (is_of_executions done) (F.device.contents start) (F.device.contents l.folder);
+      build : F.device.faithful l.folder → (kinds : Kinds) (registry_of : Registering) (remembered : Memory) (clear : Bool) (observed : List Bytes) → IsAssumed g.A.Actions.meanings l.build.table.now kinds (F.device.may_leave start)
+          → (IsTrue clear → AreTrueBefore kinds tasks l.build.records.now observed (F.device.contents start) remembered)
+          → IsUnderway kinds registry_of (F.device.may_leave start) clear observed l.build.options tasks
+          (record { contents = F.device.contents start; remembered = remembered; failures = F.device.failures start }) done (drop l.index tasks) l.reports.items
+          (record { contents = F.device.contents l.folder; failures = F.device.failures l.folder });
     }

@@ -49,7 +49,7 @@ returns-then-not-does_start-clause-execution g c = λ faithful there kinds regis
     let got = slice_get-get_or tasks c.args.index c.index-build-index.result c.requires.index in
     let same : slice_index_or tasks c.args.index c.index-build-index.result ≡ planned = some_same (sym got ∙ is) in
     let by_number = c.starts_by_number.ensures c.args.build.now.options tasks c.args.starts.now moment c.args.index planned c.requires.can.once c.requires.of_plan endings is in
-    execution_passed kinds registry_of (F.may_leave c.args.folder.now) c.args.build.now.options tasks moment planned c.not_run_report.result (F.contents c.args.folder.now) (F.failures c.args.folder.now)
+    execution_passed kinds registry_of (F.device.may_leave c.args.folder.now) c.args.build.now.options tasks moment planned c.not_run_report.result (F.device.contents c.args.folder.now) (F.device.failures c.args.folder.now)
     (c.not_run_report.ensures ∙ ap (report_with NotRun) same)
     (λ starts. not_false (sym (c.does_start.ensures.starts.1 (by_number.0 starts)) ∙ c.if-not-does_start.true))
     folder exists
@@ -106,7 +106,7 @@ returns-clause-changes g c = λ faithful planned is.
     let tasks = c.args.build.now.tasks.now in
     let got = slice_get-get_or tasks c.args.index c.index-build-index.result c.requires.index in
     let same : slice_index_or tasks c.args.index c.index-build-index.result ≡ planned = some_same (sym got ∙ is) in
-    subst (λ (p : Planned). ChangesOnly (is_of_execution p.task) (F.contents c.args.folder.now) (F.contents c.execute_task-report.new.folder)) same (c.execute_task-report.ensures.changes faithful)
+    subst (λ (p : Planned). ChangesOnly (is_of_execution p.task) (F.device.contents c.args.folder.now) (F.device.contents c.execute_task-report.new.folder)) same (c.execute_task-report.ensures.changes faithful)
 
 pub returns-clause-outline : goal.returns-clause-outline
 returns-clause-outline g c = λ moment planned is endings.
@@ -142,8 +142,8 @@ returns-clause-execution g c = λ faithful there kinds registry_of moment planne
     let need = c.needs_by_number.ensures tasks c.args.starts.now moment index task c.requires.can.once c.requires.of_plan endings got
     ∙ sym (c.has_executed_need-need.ensures ∙ ap (λ (p : Progress). has_executed_need p index) c.does_start.ensures.same) in
     let by_number = c.starts_by_number.ensures build.options tasks c.args.starts.now moment index task c.requires.can.once c.requires.of_plan endings got in
-    subst (λ (p : Planned). IsExecutionOf (setting_with kinds registry_of (F.may_leave old)) build.options tasks moment p c.execute_task-report.result (F.contents old) (F.failures new) (F.contents new)) same
-    (execution_started kinds registry_of (F.may_leave old) build.options tasks moment task c.execute_task-report.result (F.contents old) (F.failures new) (F.contents new)
+    subst (λ (p : Planned). IsExecutionOf (setting_with kinds registry_of (F.device.may_leave old)) build.options tasks moment p c.execute_task-report.result (F.device.contents old) (F.device.failures new) (F.device.contents new)) same
+    (execution_started kinds registry_of (F.device.may_leave old) build.options tasks moment task c.execute_task-report.result (F.device.contents old) (F.device.failures new) (F.device.contents new)
     (record { path = c.execute_task-report.ensures.path; has_actions = c.execute_task-report.ensures.has_actions })
     (by_number.1 (c.does_start.ensures.starts.0 (not_not c.does_start.result c.if-not-does_start.false)))
     (let known_so : IsKnown kinds task.task moment.world (option_copied c.as_ref-last.result) =
@@ -159,14 +159,14 @@ pub returns-then-not-does_start-clause-requests : goal.returns-then-not-does_sta
 returns-then-not-does_start-clause-requests g c = λ planned is since before was.
     let F = g.F.Folder in
     let build = c.args.build.now in
-    subst (λ (r : TaskReport). ExecutionRequests F.failures F.may_leave F.allowed g.A.Actions.meanings build.table.now build.options planned.task (slice_index_or build.records.now c.args.index None) r.outcome r.lines
+    subst (λ (r : TaskReport). ExecutionRequests F.device g.A.Actions.meanings build.table.now build.options planned.task (slice_index_or build.records.now c.args.index None) r.outcome r.lines
     since c.args.folder.now c.args.folder.now) (sym c.not_run_report.ensures) refl
 
 pub returns-then-not-does_start-clause-seen : goal.returns-then-not-does_start-clause-seen
 returns-then-not-does_start-clause-seen g c = λ since before was.
     let F = g.F.Folder in
     let now = c.args.folder.now in
-    subst (λ (r : TaskReport). AreSeen F.failures F.may_leave F.allowed (since_after r.outcome since now) now c.args.seen.now) (sym c.not_run_report.ensures) was
+    subst (λ (r : TaskReport). AreSeen F.device (since_after r.outcome since now) now c.args.seen.now) (sym c.not_run_report.ensures) was
 
 pub returns-clause-requests : goal.returns-clause-requests
 returns-clause-requests g c = λ planned at since before was.
@@ -180,8 +180,8 @@ returns-clause-requests g c = λ planned at since before was.
     let within : index < length build.records.now = omega (arith, c.requires.each, c.requires.index) in
     let last : option_copied c.as_ref-last.result ≡ slice_index_or build.records.now index None =
     c.as_ref-last.ensures.value ∙ get_or_default build.records.now index c.index-build-index-2.result None within in
-    subst (λ (read : Option Record). ExecutionRequests F.failures F.may_leave F.allowed g.A.Actions.meanings build.table.now build.options planned.task read outcome lines since c.args.folder.now
+    subst (λ (read : Option Record). ExecutionRequests F.device g.A.Actions.meanings build.table.now build.options planned.task read outcome lines since c.args.folder.now
     c.execute_task-report.new.folder) last
-    (subst (λ (p : Planned). ExecutionRequests F.failures F.may_leave F.allowed g.A.Actions.meanings build.table.now build.options p.task (option_copied c.as_ref-last.result) outcome lines
+    (subst (λ (p : Planned). ExecutionRequests F.device g.A.Actions.meanings build.table.now build.options p.task (option_copied c.as_ref-last.result) outcome lines
     since c.args.folder.now c.execute_task-report.new.folder) same
     (c.execute_task-report.ensures.requests since before was))

@@ -1,4 +1,3 @@
-use Rattle.gb_folder.specs.Calls.{Lists, answered}
 use Rattle.gb_folder.proofs.Exact.{listed, lists_well, row_failed}
 use Rattle.gb_folder.proofs.calls.list.Goals as goal
 
@@ -7,12 +6,12 @@ returns g c =
     let F = g.F.Folder in
     let root = c.args.root.now in
     let said = c.list.ensures in
-    g.met.F.Folder.called c.args.folder.now (Lists root (answered c.list.result)) c.list.new.self (record {
+    record {
       allowed = said.call;
       well = lists_well root c.list.result said.under said.ordered said.not_large;
       count = said.requests.count;
       tearing = said.requests.tearing;
-      risen = λ is. said.device (row_failed c.list.result is);
-      back = said.back;
-      exact = λ faithful. (listed (F.contents c.args.folder.now) root c.list.result said.not_large (said.not_missing faithful) (said.not_blocked faithful) (said.listed faithful) (said.none_special faithful) (said.bad_name faithful), said.same faithful);
-    })
+      risen = λ is. said.risen (row_failed c.list.result is);
+      back = said.requests.back;
+      exact = λ faithful. (listed (F.device.contents c.args.folder.now) root c.list.result said.not_large (said.not_missing faithful) (said.not_blocked faithful) (said.listed faithful) (said.none_special faithful) (said.bad_name faithful), said.same faithful);
+    }

@@ -1,4 +1,3 @@
-use Rattle.gb_folder.specs.Calls.{Writes}
 use Rattle.gb_folder.proofs.Exact.{change_failed, writes_well, wrote}
 use Rattle.gb_folder.proofs.calls.write.Goals as goal
 
@@ -9,13 +8,13 @@ returns g c =
     let place = c.args.place.now in
     let bytes = c.args.bytes.now in
     let said = c.write.ensures in
-    g.met.F.Folder.called old (Writes place bytes c.args.limit c.write.result) c.write.new.self (record {
+    record {
       allowed = said.call;
       well = writes_well bytes c.args.limit c.write.result said.within said.large said.not_missing said.not_named;
       count = said.requests.count;
       tearing = said.requests.tearing;
-      risen = λ is. said.device (change_failed c.write.result is);
-      back = said.back;
-      exact = λ faithful. wrote (F.may_leave old) (F.contents old) place bytes c.args.limit c.write.result (F.contents c.write.new.self) said.within
+      risen = λ is. said.risen (change_failed c.write.result is);
+      back = said.requests.back;
+      exact = λ faithful. wrote (F.device.may_leave old) (F.device.contents old) place bytes c.args.limit c.write.result (F.device.contents c.write.new.self) said.within
           said.large said.not_missing said.not_named (said.written faithful) (said.free faithful) (said.blocked faithful) (said.same faithful) (said.torn faithful);
-    })
+    }

@@ -19,7 +19,7 @@ use Rattle.gb_label.proofs.deciding.by_record.Goals as goal
 pub returns-in_ok-on-in-Ok-clause-based : goal.returns-in_ok-on-in-Ok-clause-based
 returns-in_ok-on-in-Ok-clause-based g c = λ faithful known inputs.
     let task = c.args.task.now in
-    let old : Contents = g.F.Folder.contents c.args.folder.now in
+    let old : Contents = g.F.Folder.device.contents c.args.folder.now in
     let present = c.in_ok-on-in-Ok.on.present in
     subst (λ (os : List OutputRecord). IsPresentOf c.args.options task (digests_in (trees_of task old.files)) os present)
     (ap (λ (readings : List Read). records_with task.outputs (prints_read readings)) c.as_slice.ensures.value ∙ ap (records_with task.outputs) (c.in-Ok.ensures.prints faithful known)
@@ -38,24 +38,24 @@ returns-in_ok-on-in-Ok-clause-read g c = read_for c.args.task.now c.in_ok-on-in-
 
 pub returns-in_ok-on-in-Ok-clause-observed : goal.returns-in_ok-on-in-Ok-clause-observed
 returns-in_ok-on-in-Ok-clause-observed g c = λ faithful known.
-    observed_for c.args.task.now (g.F.Folder.contents c.args.folder.now).files c.in_ok-on-in-Ok.on.decision c.in-Ok.outputs.items (c.in-Ok.ensures.observed faithful known)
+    observed_for c.args.task.now (g.F.Folder.device.contents c.args.folder.now).files c.in_ok-on-in-Ok.on.decision c.in-Ok.outputs.items (c.in-Ok.ensures.observed faithful known)
 
 pub returns-in_ok-on-in-Ok-clause-answered : goal.returns-in_ok-on-in-Ok-clause-answered
 returns-in_ok-on-in-Ok-clause-answered g c = λ first before known.
     let task = c.args.task.now in
     let inputs = c.args.inputs.now in
     let found = c.in_ok-on-in-Ok in
-    record_decided g.F.Folder.failures g.F.Folder.may_leave g.F.Folder.allowed first c.read_outputs_now.new.folder c.args.options task c.args.run.now inputs found.on.decision c.in-Ok.outputs.items c.in-Ok.ensures.read (c.in-Ok.ensures.answered first before known) found.on.present
+    record_decided g.F.Folder.device first c.read_outputs_now.new.folder c.args.options task c.args.run.now inputs found.on.decision c.in-Ok.outputs.items c.in-Ok.ensures.read (c.in-Ok.ensures.answered first before known) found.on.present
     (subst (λ (outputs : List Read). IsPresentOf c.args.options task (prints_read inputs) (records_with task.outputs (prints_read outputs)) found.on.present)
     c.as_slice.ensures.value found.ensures.present) found.ensures.decides
 
 pub returns-in_ok-check_grown-in-Err-clause-based : goal.returns-in_ok-check_grown-in-Err-clause-based
 returns-in_ok-check_grown-in-Err-clause-based g c = λ faithful known inputs.
     let task = c.args.task.now in
-    let old : Contents = g.F.Folder.contents c.args.folder.now in
+    let old : Contents = g.F.Folder.device.contents c.args.folder.now in
     ok_as c.in_full.result c.in_full.ensures.full (λ found full.
     subst (λ (b : Basis). IsBasisIn c.args.options task old b) (sym full.1)
-    (has_grown task old _ _ c.in-Err.fault c.in_ok-check_grown-in-Err.ensures.ok (c.in-Err.ensures.err (c.in_full.ensures.back faithful) known)))
+    (has_grown task old _ _ c.in-Err.fault c.in_ok-check_grown-in-Err.ensures.ok (c.in-Err.ensures.err (c.in_full.ensures.reads.requests.back faithful) known)))
 
 pub returns-in_ok-check_grown-in-Err-clause-goes_by : goal.returns-in_ok-check_grown-in-Err-clause-goes_by
 returns-in_ok-check_grown-in-Err-clause-goes_by g c =
@@ -65,11 +65,11 @@ returns-in_ok-check_grown-in-Err-clause-goes_by g c =
 pub returns-in_err-check_grown-in-Err-clause-err : goal.returns-in_err-check_grown-in-Err-clause-err
 returns-in_err-check_grown-in-Err-clause-err g c = λ faithful known.
     let task = c.args.task.now in
-    let old : Contents = g.F.Folder.contents c.args.folder.now in
+    let old : Contents = g.F.Folder.device.contents c.args.folder.now in
     let residual = c.from_residual-in_err-check_grown-in-Err in
     let p = err_from_is_err_and residual.result residual.ensures.1 in
     let reported = c.in_err-check_grown-in-Err.ensures.err in
-    let Cannot : Fault → Type 0 = CannotRead (g.F.Folder.failures c.args.folder.now) (g.F.Folder.failures c.read_outputs_now.new.folder) (listing_faults task old) in
+    let Cannot : Fault → Type 0 = CannotRead (g.F.Folder.device.failures c.args.folder.now) (g.F.Folder.device.failures c.read_outputs_now.new.folder) (listing_faults task old) in
     at_err (λ r. IfErr r Cannot) residual.result p.0 c.in_err-check_grown-in-Err.field-0.0 p.1 p.2
     (subst Cannot (sym reported.0) (cannot_read task old _ _ c.in-Err.fault reported.1 (c.in-Err.ensures.err faithful known)))
 
@@ -84,9 +84,9 @@ returns-in_ok-check_grown-in-Err-clause-read g c =
 
 pub returns-in_ok-check_grown-in-Err-clause-observed : goal.returns-in_ok-check_grown-in-Err-clause-observed
 returns-in_ok-check_grown-in-Err-clause-observed g c = λ faithful known.
-    ok_as c.in_full.result c.in_full.ensures.full (λ found full. none_observed_for c.args.task.now (g.F.Folder.contents c.args.folder.now).files found.decision found.outputs.items full.0)
+    ok_as c.in_full.result c.in_full.ensures.full (λ found full. none_observed_for c.args.task.now (g.F.Folder.device.contents c.args.folder.now).files found.decision found.outputs.items full.0)
 
 pub returns-in_ok-check_grown-in-Err-clause-answered : goal.returns-in_ok-check_grown-in-Err-clause-answered
 returns-in_ok-check_grown-in-Err-clause-answered g c = λ first before known.
     ok_as c.in_full.result c.in_full.ensures.full (λ found full.
-    full_decided g.F.Folder.failures g.F.Folder.may_leave g.F.Folder.allowed first c.in_full.new.folder c.args.options c.args.task.now (Some c.args.run.now) c.args.inputs.now found.decision found.outputs.items full.0)
+    full_decided g.F.Folder.device first c.in_full.new.folder c.args.options c.args.task.now (Some c.args.run.now) c.args.inputs.now found.decision found.outputs.items full.0)

@@ -20,7 +20,7 @@ returns-in_default-clause-goes_by g c =
 pub returns-in_default-clause-based : goal.returns-in_default-clause-based
 returns-in_default-clause-based g c = λ faithful known inputs.
     ok_as c.in_full.result c.in_full.ensures.full (λ found full.
-    subst (λ (b : Basis). IsBasisIn c.args.options c.args.task.now (g.F.Folder.contents c.args.folder.now) b) (sym full.1) tt)
+    subst (λ (b : Basis). IsBasisIn c.args.options c.args.task.now (g.F.Folder.device.contents c.args.folder.now) b) (sym full.1) tt)
 
 pub returns-in_default-clause-may_decide : goal.returns-in_default-clause-may_decide
 returns-in_default-clause-may_decide g c =
@@ -32,12 +32,12 @@ returns-in_default-clause-read g c = ok_as c.in_full.result c.in_full.ensures.fu
 
 pub returns-in_default-clause-observed : goal.returns-in_default-clause-observed
 returns-in_default-clause-observed g c = λ faithful known.
-    ok_as c.in_full.result c.in_full.ensures.full (λ found full. none_observed_for c.args.task.now (g.F.Folder.contents c.args.folder.now).files found.decision found.outputs.items full.0)
+    ok_as c.in_full.result c.in_full.ensures.full (λ found full. none_observed_for c.args.task.now (g.F.Folder.device.contents c.args.folder.now).files found.decision found.outputs.items full.0)
 
 pub returns-in_default-clause-answered : goal.returns-in_default-clause-answered
 returns-in_default-clause-answered g c = λ first before known.
     ok_as c.in_full.result c.in_full.ensures.full (λ found full.
-    full_decided g.F.Folder.failures g.F.Folder.may_leave g.F.Folder.allowed first c.in_full.new.folder c.args.options c.args.task.now (option_copied c.args.old) c.args.inputs.now found.decision found.outputs.items full.0)
+    full_decided g.F.Folder.device first c.in_full.new.folder c.args.options c.args.task.now (option_copied c.args.old) c.args.inputs.now found.decision found.outputs.items full.0)
 
 pub returns-then-options-clause-goes_by : goal.returns-then-options-clause-goes_by
 returns-then-options-clause-goes_by g c =
@@ -49,7 +49,7 @@ returns-then-options-clause-goes_by g c =
 pub returns-then-options-clause-based : goal.returns-then-options-clause-based
 returns-then-options-clause-based g c = λ faithful known inputs.
     ok_as c.in_full-then-options.result c.in_full-then-options.ensures.full (λ found full.
-    subst (λ (b : Basis). IsBasisIn c.args.options c.args.task.now (g.F.Folder.contents c.args.folder.now) b) (sym full.1) tt)
+    subst (λ (b : Basis). IsBasisIn c.args.options c.args.task.now (g.F.Folder.device.contents c.args.folder.now) b) (sym full.1) tt)
 
 pub returns-then-options-clause-may_decide : goal.returns-then-options-clause-may_decide
 returns-then-options-clause-may_decide g c =
@@ -61,12 +61,12 @@ returns-then-options-clause-read g c = ok_as c.in_full-then-options.result c.in_
 
 pub returns-then-options-clause-observed : goal.returns-then-options-clause-observed
 returns-then-options-clause-observed g c = λ faithful known.
-    ok_as c.in_full-then-options.result c.in_full-then-options.ensures.full (λ found full. none_observed_for c.args.task.now (g.F.Folder.contents c.args.folder.now).files found.decision found.outputs.items full.0)
+    ok_as c.in_full-then-options.result c.in_full-then-options.ensures.full (λ found full. none_observed_for c.args.task.now (g.F.Folder.device.contents c.args.folder.now).files found.decision found.outputs.items full.0)
 
 pub returns-then-options-clause-answered : goal.returns-then-options-clause-answered
 returns-then-options-clause-answered g c = λ first before known.
     ok_as c.in_full-then-options.result c.in_full-then-options.ensures.full (λ found full.
-    full_decided g.F.Folder.failures g.F.Folder.may_leave g.F.Folder.allowed first c.in_full-then-options.new.folder c.args.options c.args.task.now (option_copied c.args.old) c.args.inputs.now found.decision found.outputs.items full.0)
+    full_decided g.F.Folder.device first c.in_full-then-options.new.folder c.args.options c.args.task.now (option_copied c.args.old) c.args.inputs.now found.decision found.outputs.items full.0)
 
 pub returns-then-task-clause-goes_by : goal.returns-then-task-clause-goes_by
 returns-then-task-clause-goes_by g c =
@@ -78,7 +78,7 @@ returns-then-task-clause-goes_by g c =
 pub returns-then-task-clause-based : goal.returns-then-task-clause-based
 returns-then-task-clause-based g c = λ faithful known inputs.
     ok_as c.in_full-then-task.result c.in_full-then-task.ensures.full (λ found full.
-    subst (λ (b : Basis). IsBasisIn c.args.options c.args.task.now (g.F.Folder.contents c.args.folder.now) b) (sym full.1) tt)
+    subst (λ (b : Basis). IsBasisIn c.args.options c.args.task.now (g.F.Folder.device.contents c.args.folder.now) b) (sym full.1) tt)
 
 pub returns-then-task-clause-may_decide : goal.returns-then-task-clause-may_decide
 returns-then-task-clause-may_decide g c =
@@ -90,9 +90,9 @@ returns-then-task-clause-read g c = ok_as c.in_full-then-task.result c.in_full-t
 
 pub returns-then-task-clause-observed : goal.returns-then-task-clause-observed
 returns-then-task-clause-observed g c = λ faithful known.
-    ok_as c.in_full-then-task.result c.in_full-then-task.ensures.full (λ found full. none_observed_for c.args.task.now (g.F.Folder.contents c.args.folder.now).files found.decision found.outputs.items full.0)
+    ok_as c.in_full-then-task.result c.in_full-then-task.ensures.full (λ found full. none_observed_for c.args.task.now (g.F.Folder.device.contents c.args.folder.now).files found.decision found.outputs.items full.0)
 
 pub returns-then-task-clause-answered : goal.returns-then-task-clause-answered
 returns-then-task-clause-answered g c = λ first before known.
     ok_as c.in_full-then-task.result c.in_full-then-task.ensures.full (λ found full.
-    full_decided g.F.Folder.failures g.F.Folder.may_leave g.F.Folder.allowed first c.in_full-then-task.new.folder c.args.options c.args.task.now (option_copied c.args.old) c.args.inputs.now found.decision found.outputs.items full.0)
+    full_decided g.F.Folder.device first c.in_full-then-task.new.folder c.args.options c.args.task.now (option_copied c.args.old) c.args.inputs.now found.decision found.outputs.items full.0)

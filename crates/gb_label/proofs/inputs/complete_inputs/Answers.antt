@@ -36,22 +36,22 @@ returns-in_err-tree-clause-blamed g c = λ place device.
 pub returns-in_err-tree-clause-err : goal.returns-in_err-tree-clause-err
 returns-in_err-tree-clause-err g c = λ faithful observed.
     let p = err_from_is_err_and c.from_residual.result c.from_residual.ensures.1 in
-    let failures = g.F.Folder.failures in
-    let old = (g.F.Folder.contents c.args.folder.now).files in
+    let failures = g.F.Folder.device.failures in
+    let old = (g.F.Folder.device.contents c.args.folder.now).files in
     let readings = c.args.readings.items in
     let x : Read = c.in-Some.reading in
     let gives = c.into_iter-reading-iterator.ensures.into_iter_gives in
     let execution = YieldsList-turn (YieldsList-from_vec {s = c.into_iter-reading-iterator.result} readings gives.0 (gives.1 ∙ c.args.readings.ok.0)) c.loop-reading.yielded c.loop-reading.reading-iterator c.loop-reading.yielded_by c.next.result c.next.new.self x c.in-Some.is c.next.ensures.steps in
     let exists = all_at (Persists old) readings (length c.loop-reading.yielded) x execution.0 execution.1 (inputs_exist old c.args.task.now.files readings observed) in
     at_err (λ r. IfErr r (IsOfMachine (failures c.args.folder.now) (failures c.complete.new.folder))) c.from_residual.result p.0 c.in_err-tree.field-0.0 p.1 p.2
-    (machine_before _ _ _ _ c.loop-reading.invariant.requests.count c.complete.ensures.requests.count
-    (c.in_err-tree.ensures.err faithful (subst (λ (now : Contents). Persists now.files x) (sym (c.loop-reading.invariant.same (c.complete.ensures.back faithful))) exists)))
+    (machine_before _ _ _ _ c.loop-reading.invariant.requests.count c.complete.ensures.reads.requests.count
+    (c.in_err-tree.ensures.err faithful (subst (λ (now : Contents). Persists now.files x) (sym (c.loop-reading.invariant.same (c.complete.ensures.reads.requests.back faithful))) exists)))
 
 pub loop-reading-preserved : goal.loop-reading-preserved
 loop-reading-preserved g c =
-    let old = (g.F.Folder.contents c.args.folder.now).files in
+    let old = (g.F.Folder.device.contents c.args.folder.now).files in
     let so_far = c.loop-reading.invariant in
-    let back = c.complete.ensures.back in
+    let back = c.complete.ensures.reads.requests.back in
     let readings = c.args.readings.items in
     let n = length c.loop-reading.yielded in
     let x : Read = c.in-Some.reading in
@@ -66,9 +66,9 @@ loop-reading-preserved g c =
     record {
       can_next = tt;
       is_finite = tt;
-      requests = requests_then so_far.requests c.complete.ensures.requests;
+      requests = requests_then so_far.requests c.complete.ensures.reads.requests;
       back = λ known. so_far.back (back known);
-      same = λ faithful. c.complete.ensures.same faithful ∙ so_far.same (back faithful);
+      same = λ faithful. c.complete.ensures.reads.same faithful ∙ so_far.same (back faithful);
       named =
           name_more (λ (t : List ℕ × Tree). t.0) (λ (reading : Read). reading.0) trees c.push-in-loop-reading.new.self tree readings n x execution.0 execution.1 so_far.named more one.named
           ∙ ap (λ k. map (λ (reading : Read). reading.0) (take k readings)) next;
@@ -79,12 +79,12 @@ loop-reading-preserved g c =
           let F = g.F.Folder in
           let files = c.args.task.now.files in
           let now = c.complete.new.folder in
-          let Done : FileProperty → List ℕ × Files → Type 0 = IsInputRead F.failures F.may_leave F.allowed first now in
+          let Done : FileProperty → List ℕ × Files → Type 0 = IsInputRead F.device first now in
           subst (λ (k : ℕ). AllZip Done (take k files) c.push-in-loop-reading.new.self) (sym (add-one n) ∙ next)
           (subst (λ (ts : List (List ℕ × Files)). AllZip Done (take (suc n) files) ts) (sym more)
-          (next_made (IsInputAnswered F.failures F.may_leave F.allowed first c.args.folder.now) Done files readings trees n x tree execution.0 execution.1 were
-          (λ property was. input_completed so_far.requests c.complete.ensures.requests property x tree (one.answered first (requests_then requests so_far.requests)) was)
-          (all_zip_more (IsInputRead F.failures F.may_leave F.allowed first c.loop-reading.folder) Done (tree_read_longer (requests_nothing first) c.complete.ensures.requests)
+          (next_made (IsInputAnswered F.device first c.args.folder.now) Done files readings trees n x tree execution.0 execution.1 were
+          (λ property was. input_completed so_far.requests c.complete.ensures.reads.requests property x tree (one.answered first (requests_then requests so_far.requests)) was)
+          (all_zip_more (IsInputRead F.device first c.loop-reading.folder) Done (tree_read_longer (requests_nothing first) c.complete.ensures.reads.requests)
           (take n files) trees (so_far.answered first requests were))));
       trees = λ faithful all.
           let exists = all_at (Persists old) readings n x execution.0 execution.1 all in
@@ -104,7 +104,7 @@ returns-clause-named g c =
 
 pub returns-clause-trees : goal.returns-clause-trees
 returns-clause-trees g c = λ faithful observed.
-    let old = (g.F.Folder.contents c.args.folder.now).files in
+    let old = (g.F.Folder.device.contents c.args.folder.now).files in
     let files = c.args.task.now.files in
     let readings = c.args.readings.items in
     let gives = c.into_iter-reading-iterator.ensures.into_iter_gives in
@@ -120,6 +120,6 @@ returns-clause-answered g c = λ first requests were.
     let readings = c.args.readings.items in
     let gives = c.into_iter-reading-iterator.ensures.into_iter_gives in
     let end = YieldsList-end (YieldsList-from_vec {s = c.into_iter-reading-iterator.result} readings gives.0 (gives.1 ∙ c.args.readings.ok.0)) c.loop-reading.yielded c.loop-reading.reading-iterator c.loop-reading.yielded_by c.next.result c.next.new.self c.in-None.is c.next.ensures.steps in
-    let many = as_many (IsInputAnswered F.failures F.may_leave F.allowed first c.args.folder.now) files readings were in
-    subst (λ (fs : List FileProperty). AllZip (IsInputRead F.failures F.may_leave F.allowed first c.loop-reading.folder) fs c.loop-reading.trees)
+    let many = as_many (IsInputAnswered F.device first c.args.folder.now) files readings were in
+    subst (λ (fs : List FileProperty). AllZip (IsInputRead F.device first c.loop-reading.folder) fs c.loop-reading.trees)
     (take_all (length c.loop-reading.yielded) files (omega (arith, end.1, many))) (c.loop-reading.invariant.answered first requests were)

@@ -41,41 +41,41 @@ returns-in_err-read_one-clause-blamed g c = λ place device.
 pub returns-in_err-read_one-clause-err : goal.returns-in_err-read_one-clause-err
 returns-in_err-read_one-clause-err g c = λ faithful known.
     let p = err_from_is_err_and c.from_residual.result c.from_residual.ensures.1 in
-    let old = g.F.Folder.contents c.args.folder.now in
+    let old = g.F.Folder.device.contents c.args.folder.now in
     let files = c.args.task.now.files in
     let index = c.loop-property.property-index in
     let item = c.property-item.result in
     let less = subst (λ (fs : List FileProperty). index < length fs) c.as_slice-property-items.ensures c.loop-property-test.true in
     let is = subst (λ (fs : List FileProperty). item ≡ get_or fs index item) c.as_slice-property-items.ensures c.property-item.is in
-    let IsFault : Fault → Type 0 = CannotRead (g.F.Folder.failures c.args.folder.now) (g.F.Folder.failures c.read_one.new.folder) (input_faults c.args.task.now old) in
-    at_err (λ r. IfErr r IsFault) c.from_residual.result p.0 c.in_err-read_one.field-0.0 p.1 p.2 (elim (c.in_err-read_one.ensures.err faithful (known_still _ _ c.args.seen.now (c.loop-property.invariant.same (c.read_one.ensures.back faithful)) known)) [
-      | inl machine ↦ inl (machine_before _ _ _ _ c.loop-property.invariant.requests.count c.read_one.ensures.requests.count machine)
-      | inr first ↦ inr (first_of_all (λ property. tree_faults property old) files index item _ less is (c.loop-property.invariant.fit (c.read_one.ensures.back faithful) known)
-          (ap (λ folder. first_of (tree_faults item folder)) (sym (c.loop-property.invariant.same (c.read_one.ensures.back faithful))) ∙ first))
+    let IsFault : Fault → Type 0 = CannotRead (g.F.Folder.device.failures c.args.folder.now) (g.F.Folder.device.failures c.read_one.new.folder) (input_faults c.args.task.now old) in
+    at_err (λ r. IfErr r IsFault) c.from_residual.result p.0 c.in_err-read_one.field-0.0 p.1 p.2 (elim (c.in_err-read_one.ensures.err faithful (known_still _ _ c.args.seen.now (c.loop-property.invariant.same (c.read_one.ensures.reads.requests.back faithful)) known)) [
+      | inl machine ↦ inl (machine_before _ _ _ _ c.loop-property.invariant.requests.count c.read_one.ensures.reads.requests.count machine)
+      | inr first ↦ inr (first_of_all (λ property. tree_faults property old) files index item _ less is (c.loop-property.invariant.fit (c.read_one.ensures.reads.requests.back faithful) known)
+          (ap (λ folder. first_of (tree_faults item folder)) (sym (c.loop-property.invariant.same (c.read_one.ensures.reads.requests.back faithful))) ∙ first))
     ])
 
 pub loop-property-preserved : goal.loop-property-preserved
 loop-property-preserved g c =
     let task = c.args.task.now in
-    let old = g.F.Folder.contents c.args.folder.now in
+    let old = g.F.Folder.device.contents c.args.folder.now in
     let files = task.files in
     let index = c.loop-property.property-index in
     let item = c.property-item.result in
     let less = subst (λ (fs : List FileProperty). index < length fs) c.as_slice-property-items.ensures c.loop-property-test.true in
     let is = subst (λ (fs : List FileProperty). item ≡ get_or fs index item) c.as_slice-property-items.ensures c.property-item.is in
     let so_far = c.loop-property.invariant in
-    let back = c.read_one.ensures.back in
+    let back = c.read_one.ensures.reads.requests.back in
     let readings = c.loop-property.readings.items in
     let next = c.push.new.self.items in
     let added = c.in_ok-push.ensures.items in
     let one = c.in_ok-read_one.ensures in
     let x : Read = c.in_ok-read_one.field-0 in
-    let known_now = λ (faithful : g.F.Folder.faithful c.read_one.new.folder) (known : AreSeenIn old.files c.args.seen.now). known_still _ _ c.args.seen.now (so_far.same (back faithful)) known in
+    let known_now = λ (faithful : g.F.Folder.device.faithful c.read_one.new.folder) (known : AreSeenIn old.files c.args.seen.now). known_still _ _ c.args.seen.now (so_far.same (back faithful)) known in
     let reported : FileProperty → Prints = λ property. (property.name, digests_of (tree_of property old.files)) in
     record {
-      requests = requests_then so_far.requests c.read_one.ensures.requests;
+      requests = requests_then so_far.requests c.read_one.ensures.reads.requests;
       back = λ known. so_far.back (back known);
-      same = λ faithful. c.read_one.ensures.same faithful ∙ so_far.same (back faithful);
+      same = λ faithful. c.read_one.ensures.reads.same faithful ∙ so_far.same (back faithful);
       named = name_more (λ (reading : Read). reading.0) (λ (property : FileProperty). property.name) readings next x files index item less is so_far.named added one.named;
       within =
           each_more (λ (reading : Read). AllByRecursion (λ observed. IsTrue (is_input_of task observed.place)) reading.1) readings next x added so_far.within
@@ -84,9 +84,9 @@ loop-property-preserved g c =
       answered = λ first before known.
           let F = g.F.Folder in
           let now = c.read_one.new.folder in
-          let Answered : FileProperty → Read → Type 0 = IsInputAnswered F.failures F.may_leave F.allowed first now in
+          let Answered : FileProperty → Read → Type 0 = IsInputAnswered F.device first now in
           observed_more Answered files readings next index item x less is added
-          (all_zip_more (IsInputAnswered F.failures F.may_leave F.allowed first c.loop-property.folder) Answered (input_longer (requests_nothing first) c.read_one.ensures.requests)
+          (all_zip_more (IsInputAnswered F.device first c.loop-property.folder) Answered (input_longer (requests_nothing first) c.read_one.ensures.reads.requests)
           (take index files) readings (so_far.answered first before known))
           (one.answered first (requests_then before so_far.requests) (seen_longer (requests_nothing first) so_far.requests c.args.seen.now known));
       prints = λ faithful known.
@@ -112,7 +112,7 @@ returns-clause-read g c =
 
 pub returns-clause-prints : goal.returns-clause-prints
 returns-clause-prints g c = λ faithful known.
-    let old = g.F.Folder.contents c.args.folder.now in
+    let old = g.F.Folder.device.contents c.args.folder.now in
     let files = c.args.task.now.files in
     let index = c.loop-property.property-index in
     let long : length files ≤ index = omega (arith, c.loop-property-test.false, ap length c.as_slice-property-items.ensures) in
@@ -122,7 +122,7 @@ returns-clause-prints g c = λ faithful known.
 
 pub returns-clause-observed : goal.returns-clause-observed
 returns-clause-observed g c = λ faithful known.
-    let old = g.F.Folder.contents c.args.folder.now in
+    let old = g.F.Folder.device.contents c.args.folder.now in
     let files = c.args.task.now.files in
     let index = c.loop-property.property-index in
     let long : length files ≤ index = omega (arith, c.loop-property-test.false, ap length c.as_slice-property-items.ensures) in
@@ -134,5 +134,5 @@ returns-clause-answered g c = λ first before known.
     let files = c.args.task.now.files in
     let index = c.loop-property.property-index in
     let long : length files ≤ index = omega (arith, c.loop-property-test.false, ap length c.as_slice-property-items.ensures) in
-    subst (λ (fs : List FileProperty). AllZip (IsInputAnswered F.failures F.may_leave F.allowed first c.loop-property.folder) fs c.loop-property.readings.items)
+    subst (λ (fs : List FileProperty). AllZip (IsInputAnswered F.device first c.loop-property.folder) fs c.loop-property.readings.items)
     (take_all index files long) (c.loop-property.invariant.answered first before known)

@@ -10,19 +10,19 @@ use Rattle.gb_label.proofs.inputs.read_inputs.Given as goal
 
 abbrev pub invariant-loop-property : goal.invariant-loop-property
 invariant-loop-property g l =
-    let contents = g.F.Folder.contents in
+    let contents = g.F.Folder.device.contents in
     let old = contents l.fn.folder in
     let done = take l.property-index l.task.files in
     record {
-      requests : Requests g.F.Folder.failures g.F.Folder.may_leave g.F.Folder.allowed no_change l.fn.folder l.folder;
-      back : g.F.Folder.faithful l.folder → g.F.Folder.faithful l.fn.folder;
-      same : g.F.Folder.faithful l.folder → contents l.folder ≡ old;
+      requests : Requests g.F.Folder.device no_change l.fn.folder l.folder;
+      back : g.F.Folder.device.faithful l.folder → g.F.Folder.device.faithful l.fn.folder;
+      same : g.F.Folder.device.faithful l.folder → contents l.folder ≡ old;
       named : map (λ reading. reading.0) l.readings.items ≡ map (λ property. property.name) done;
       within : AreWithin (is_input_of l.task) l.readings.items;
-      answered : (first : _) → Requests g.F.Folder.failures g.F.Folder.may_leave g.F.Folder.allowed no_change first l.fn.folder
-          → AreSeen g.F.Folder.failures g.F.Folder.may_leave g.F.Folder.allowed first l.fn.folder l.seen
-          → AllZip (IsInputAnswered g.F.Folder.failures g.F.Folder.may_leave g.F.Folder.allowed first l.folder) done l.readings.items;
-      prints : g.F.Folder.faithful l.folder → AreSeenIn old.files l.seen → prints_read l.readings.items ≡ map (λ property. (property.name, digests_of (tree_of property old.files))) done;
-      observed : g.F.Folder.faithful l.folder → AreSeenIn old.files l.seen → AllZip (IsPropertyObserved old.files) done l.readings.items;
-      fit : g.F.Folder.faithful l.folder → AreSeenIn old.files l.seen → flat_map (λ property. tree_faults property old) done ≡ [];
+      answered : (first : _) → Requests g.F.Folder.device no_change first l.fn.folder
+          → AreSeen g.F.Folder.device first l.fn.folder l.seen
+          → AllZip (IsInputAnswered g.F.Folder.device first l.folder) done l.readings.items;
+      prints : g.F.Folder.device.faithful l.folder → AreSeenIn old.files l.seen → prints_read l.readings.items ≡ map (λ property. (property.name, digests_of (tree_of property old.files))) done;
+      observed : g.F.Folder.device.faithful l.folder → AreSeenIn old.files l.seen → AllZip (IsPropertyObserved old.files) done l.readings.items;
+      fit : g.F.Folder.device.faithful l.folder → AreSeenIn old.files l.seen → flat_map (λ property. tree_faults property old) done ≡ [];
     }

@@ -17,7 +17,7 @@ returns-in-Ok-clause-answered g c = λ first before known.
     let property = c.args.property.now in
     let entries = entries_observed c.in-Ok.reading.1 in
     let Listed : List (List ℕ) → List (List ℕ) → List (List ℕ) → Type 0 =
-    λ roots include exclude. AreEntriesListed F.failures F.may_leave F.allowed property.naming roots include exclude first new entries in
+    λ roots include exclude. AreEntriesListed F.device property.naming roots include exclude first new entries in
     let was = entries_longer before (requests_nothing new) property.naming c.as_slice.result.now c.as_slice-2.result.now c.as_slice-3.result.now entries c.in-Ok.ensures.listed in (
       subst (λ (roots : List (List ℕ)). Listed roots property.include property.exclude) c.as_slice.ensures
           (subst (λ (include : List (List ℕ)). Listed c.as_slice.result.now include property.exclude) c.as_slice-2.ensures

@@ -43,8 +43,8 @@ returns-in_err-files-clause-blamed g c = λ place device.
 pub returns-in_err-files-clause-err : goal.returns-in_err-files-clause-err
 returns-in_err-files-clause-err g c = λ faithful observed.
     let p = err_from_is_err_and c.from_residual.result c.from_residual.ensures.1 in
-    let failures = g.F.Folder.failures in
-    let old = (g.F.Folder.contents c.args.folder.now).files in
+    let failures = g.F.Folder.device.failures in
+    let old = (g.F.Folder.device.contents c.args.folder.now).files in
     let outputs = c.args.task.now.outputs in
     let readings = c.args.readings.items in
     let pairs = zip outputs readings in
@@ -54,14 +54,14 @@ returns-in_err-files-clause-err g c = λ faithful observed.
     let execution = YieldsList-turn road c.loop-output.yielded c.loop-output.output-iterator c.loop-output.yielded_by c.next.result c.next.new.self _ c.in-Some.is c.next.ensures.steps in
     let exists = all_at (λ (pair : Output × Read). Persists old pair.1) pairs (length c.loop-output.yielded) x execution.0 execution.1 (pairs_exist old outputs readings observed) in
     at_err (λ r. IfErr r (IsOfMachine (failures c.args.folder.now) (failures c.complete_one.new.folder))) c.from_residual.result p.0 c.in_err-files.field-0.0 p.1 p.2
-    (machine_before _ _ _ _ c.loop-output.invariant.requests.count c.complete_one.ensures.requests.count
-    (c.in_err-files.ensures.err faithful (subst (λ (now : Contents). Persists now.files x.1) (sym (c.loop-output.invariant.same (c.complete_one.ensures.back faithful))) exists)))
+    (machine_before _ _ _ _ c.loop-output.invariant.requests.count c.complete_one.ensures.reads.requests.count
+    (c.in_err-files.ensures.err faithful (subst (λ (now : Contents). Persists now.files x.1) (sym (c.loop-output.invariant.same (c.complete_one.ensures.reads.requests.back faithful))) exists)))
 
 pub loop-output-preserved : goal.loop-output-preserved
 loop-output-preserved g c =
-    let old = (g.F.Folder.contents c.args.folder.now).files in
+    let old = (g.F.Folder.device.contents c.args.folder.now).files in
     let so_far = c.loop-output.invariant in
-    let back = c.complete_one.ensures.back in
+    let back = c.complete_one.ensures.reads.requests.back in
     let outputs = c.args.task.now.outputs in
     let readings = c.args.readings.items in
     let pairs = zip outputs readings in
@@ -82,9 +82,9 @@ loop-output-preserved g c =
     record {
       can_next = so_far.can_next;
       is_finite = so_far.is_finite;
-      requests = requests_then so_far.requests c.complete_one.ensures.requests;
+      requests = requests_then so_far.requests c.complete_one.ensures.reads.requests;
       back = λ known. so_far.back (back known);
-      same = λ faithful. c.complete_one.ensures.same faithful ∙ so_far.same (back faithful);
+      same = λ faithful. c.complete_one.ensures.reads.same faithful ∙ so_far.same (back faithful);
       formed =
           gathered_more form_of (map reported observed) (map reported c.push-in-loop-output.new.self) (reported made) pairs n x execution.0 execution.1
           (ap (map reported) more ∙ map-append reported observed (made ∷ []))
@@ -96,14 +96,14 @@ loop-output-preserved g c =
       answered = λ first requests were.
           let F = g.F.Folder in
           let now = c.complete_one.new.folder in
-          let Done : Output × Read → OutputFiles → Type 0 = λ pair files. IsOutputRead F.failures F.may_leave F.allowed first now pair.0 files in
-          let SoFar : Output × Read → OutputFiles → Type 0 = λ pair files. IsOutputRead F.failures F.may_leave F.allowed first c.loop-output.folder pair.0 files in
-          let Answered : Output → Read → Type 0 = IsOutputAnswered F.failures F.may_leave F.allowed first c.args.folder.now in
+          let Done : Output × Read → OutputFiles → Type 0 = λ pair files. IsOutputRead F.device first now pair.0 files in
+          let SoFar : Output × Read → OutputFiles → Type 0 = λ pair files. IsOutputRead F.device first c.loop-output.folder pair.0 files in
+          let Answered : Output → Read → Type 0 = IsOutputAnswered F.device first c.args.folder.now in
           let was = all_at (λ (pair : Output × Read). Answered pair.0 pair.1) pairs n x execution.0 execution.1 (pairs_all Answered outputs readings were) in
           subst (λ (k : ℕ). AllZip Done (take k pairs) c.push-in-loop-output.new.self) next
           (observed_more Done pairs observed c.push-in-loop-output.new.self n x made execution.0 execution.1 more
-          (all_zip_more SoFar Done (λ pair. files_read_longer (requests_nothing first) c.complete_one.ensures.requests pair.0) (take n pairs) observed (so_far.answered first requests were))
-          (output_completed so_far.requests c.complete_one.ensures.requests x.0 x.1 made (one.answered first (requests_then requests so_far.requests)) was));
+          (all_zip_more SoFar Done (λ pair. files_read_longer (requests_nothing first) c.complete_one.ensures.reads.requests pair.0) (take n pairs) observed (so_far.answered first requests were))
+          (output_completed so_far.requests c.complete_one.ensures.reads.requests x.0 x.1 made (one.answered first (requests_then requests so_far.requests)) was));
       files = λ faithful all.
           let exists = all_at (λ (pair : Output × Read). Persists old pair.1) pairs n x execution.0 execution.1 all in
           gathered_more (output_made old) observed c.push-in-loop-output.new.self made pairs n x execution.0 execution.1 more
@@ -125,7 +125,7 @@ returns-clause-formed g c =
 
 pub returns-clause-files : goal.returns-clause-files
 returns-clause-files g c = λ faithful observed.
-    let old = (g.F.Folder.contents c.args.folder.now).files in
+    let old = (g.F.Folder.device.contents c.args.folder.now).files in
     let outputs = c.args.task.now.outputs in
     let readings = c.args.readings.items in
     let pairs = zip outputs readings in
@@ -145,7 +145,7 @@ returns-clause-answered g c = λ first requests were.
     let gives = c.zip-output-items.ensures.second in
     let road = YieldsList-at c.into_iter-output-iterator.ensures.into_iter_gives (YieldsList-from_zip (YieldsList-at c.zip-output-items.ensures.first (YieldsList-from_slice outputs (c.iter.ensures.rest ∙ c.as_slice.ensures))) (YieldsList-from_vec {s = zip_second c.zip-output-items.result} readings gives.0 (gives.1 ∙ c.args.readings.ok.0))) in
     let end = YieldsList-end road c.loop-output.yielded c.loop-output.output-iterator c.loop-output.yielded_by c.next.result c.next.new.self c.in-None.is c.next.ensures.steps in
-    let Done : Output → OutputFiles → Type 0 = IsOutputRead F.failures F.may_leave F.allowed first c.loop-output.folder in
-    firsts_made (IsOutputAnswered F.failures F.may_leave F.allowed first c.args.folder.now) Done outputs readings c.loop-output.observed were
+    let Done : Output → OutputFiles → Type 0 = IsOutputRead F.device first c.loop-output.folder in
+    firsts_made (IsOutputAnswered F.device first c.args.folder.now) Done outputs readings c.loop-output.observed were
     (subst (λ (ps : List (Output × Read)). AllZip (λ pair files. Done pair.0 files) ps c.loop-output.observed)
     (take_all (length c.loop-output.yielded) pairs (omega (arith, end.1))) (c.loop-output.invariant.answered first requests were))

@@ -42,41 +42,41 @@ returns-in_err-read_one-clause-blamed g c = λ place device.
 pub returns-in_err-read_one-clause-err : goal.returns-in_err-read_one-clause-err
 returns-in_err-read_one-clause-err g c = λ faithful known.
     let p = err_from_is_err_and c.from_residual.result c.from_residual.ensures.1 in
-    let old = g.F.Folder.contents c.args.folder.now in
+    let old = g.F.Folder.device.contents c.args.folder.now in
     let outputs = c.args.task.now.outputs in
     let index = c.loop-output.output-index in
     let item = c.output-item.result in
     let less = subst (λ (os : List Output). index < length os) c.as_slice-output-items.ensures c.loop-output-test.true in
     let is = subst (λ (os : List Output). item ≡ get_or os index item) c.as_slice-output-items.ensures c.output-item.is in
-    let IsFault : Fault → Type 0 = CannotRead (g.F.Folder.failures c.args.folder.now) (g.F.Folder.failures c.read_one.new.folder) (flat_map (print_faults old) c.args.task.now.outputs) in
-    at_err (λ r. IfErr r IsFault) c.from_residual.result p.0 c.in_err-read_one.field-0.0 p.1 p.2 (elim (c.in_err-read_one.ensures.err faithful (known_still _ _ c.args.seen.now (c.loop-output.invariant.same (c.read_one.ensures.back faithful)) known)) [
-      | inl machine ↦ inl (machine_before _ _ _ _ c.loop-output.invariant.requests.count c.read_one.ensures.requests.count machine)
-      | inr first ↦ inr (first_of_all (print_faults old) outputs index item _ less is (c.loop-output.invariant.fit (c.read_one.ensures.back faithful) known)
-          (ap (λ folder. first_of (print_faults folder item)) (sym (c.loop-output.invariant.same (c.read_one.ensures.back faithful))) ∙ first))
+    let IsFault : Fault → Type 0 = CannotRead (g.F.Folder.device.failures c.args.folder.now) (g.F.Folder.device.failures c.read_one.new.folder) (flat_map (print_faults old) c.args.task.now.outputs) in
+    at_err (λ r. IfErr r IsFault) c.from_residual.result p.0 c.in_err-read_one.field-0.0 p.1 p.2 (elim (c.in_err-read_one.ensures.err faithful (known_still _ _ c.args.seen.now (c.loop-output.invariant.same (c.read_one.ensures.reads.requests.back faithful)) known)) [
+      | inl machine ↦ inl (machine_before _ _ _ _ c.loop-output.invariant.requests.count c.read_one.ensures.reads.requests.count machine)
+      | inr first ↦ inr (first_of_all (print_faults old) outputs index item _ less is (c.loop-output.invariant.fit (c.read_one.ensures.reads.requests.back faithful) known)
+          (ap (λ folder. first_of (print_faults folder item)) (sym (c.loop-output.invariant.same (c.read_one.ensures.reads.requests.back faithful))) ∙ first))
     ])
 
 pub loop-output-preserved : goal.loop-output-preserved
 loop-output-preserved g c =
     let task = c.args.task.now in
-    let old = g.F.Folder.contents c.args.folder.now in
+    let old = g.F.Folder.device.contents c.args.folder.now in
     let outputs = task.outputs in
     let index = c.loop-output.output-index in
     let item = c.output-item.result in
     let less = subst (λ (os : List Output). index < length os) c.as_slice-output-items.ensures c.loop-output-test.true in
     let is = subst (λ (os : List Output). item ≡ get_or os index item) c.as_slice-output-items.ensures c.output-item.is in
     let so_far = c.loop-output.invariant in
-    let back = c.read_one.ensures.back in
+    let back = c.read_one.ensures.reads.requests.back in
     let readings = c.loop-output.readings.items in
     let next = c.push.new.self.items in
     let added = c.in_ok-push.ensures.items in
     let one = c.in_ok-read_one.ensures in
     let x : Read = c.in_ok-read_one.field-0 in
-    let known_now = λ (faithful : g.F.Folder.faithful c.read_one.new.folder) (known : AreSeenIn old.files c.args.seen.now). known_still _ _ c.args.seen.now (so_far.same (back faithful)) known in
+    let known_now = λ (faithful : g.F.Folder.device.faithful c.read_one.new.folder) (known : AreSeenIn old.files c.args.seen.now). known_still _ _ c.args.seen.now (so_far.same (back faithful)) known in
     let reported : Output → Prints = λ output. (recorded_of old.files output).prints in
     record {
-      requests = requests_then so_far.requests c.read_one.ensures.requests;
+      requests = requests_then so_far.requests c.read_one.ensures.reads.requests;
       back = λ known. so_far.back (back known);
-      same = λ faithful. c.read_one.ensures.same faithful ∙ so_far.same (back faithful);
+      same = λ faithful. c.read_one.ensures.reads.same faithful ∙ so_far.same (back faithful);
       named = name_more (λ (reading : Read). reading.0) (λ (output : Output). output.name) readings next x outputs index item less is so_far.named added one.named;
       within =
           each_more (λ (reading : Read). AllByRecursion (λ observed. IsTrue (is_output_of task observed.place)) reading.1) readings next x added so_far.within
@@ -85,9 +85,9 @@ loop-output-preserved g c =
       answered = λ first before known.
           let F = g.F.Folder in
           let now = c.read_one.new.folder in
-          let Answered : Output → Read → Type 0 = IsOutputAnswered F.failures F.may_leave F.allowed first now in
+          let Answered : Output → Read → Type 0 = IsOutputAnswered F.device first now in
           observed_more Answered outputs readings next index item x less is added
-          (all_zip_more (IsOutputAnswered F.failures F.may_leave F.allowed first c.loop-output.folder) Answered (output_longer (requests_nothing first) c.read_one.ensures.requests)
+          (all_zip_more (IsOutputAnswered F.device first c.loop-output.folder) Answered (output_longer (requests_nothing first) c.read_one.ensures.reads.requests)
           (take index outputs) readings (so_far.answered first before known))
           (one.answered first (requests_then before so_far.requests) (seen_longer (requests_nothing first) so_far.requests c.args.seen.now known));
       prints = λ faithful known.
@@ -114,7 +114,7 @@ returns-clause-read g c =
 
 pub returns-clause-prints : goal.returns-clause-prints
 returns-clause-prints g c = λ faithful known.
-    let old = g.F.Folder.contents c.args.folder.now in
+    let old = g.F.Folder.device.contents c.args.folder.now in
     let outputs = c.args.task.now.outputs in
     let index = c.loop-output.output-index in
     let long : length outputs ≤ index = omega (arith, c.loop-output-test.false, ap length c.as_slice-output-items.ensures) in
@@ -124,7 +124,7 @@ returns-clause-prints g c = λ faithful known.
 
 pub returns-clause-observed : goal.returns-clause-observed
 returns-clause-observed g c = λ faithful known.
-    let old = g.F.Folder.contents c.args.folder.now in
+    let old = g.F.Folder.device.contents c.args.folder.now in
     let outputs = c.args.task.now.outputs in
     let index = c.loop-output.output-index in
     let long : length outputs ≤ index = omega (arith, c.loop-output-test.false, ap length c.as_slice-output-items.ensures) in
@@ -136,5 +136,5 @@ returns-clause-answered g c = λ first before known.
     let outputs = c.args.task.now.outputs in
     let index = c.loop-output.output-index in
     let long : length outputs ≤ index = omega (arith, c.loop-output-test.false, ap length c.as_slice-output-items.ensures) in
-    subst (λ (os : List Output). AllZip (IsOutputAnswered F.failures F.may_leave F.allowed first c.loop-output.folder) os c.loop-output.readings.items)
+    subst (λ (os : List Output). AllZip (IsOutputAnswered F.device first c.loop-output.folder) os c.loop-output.readings.items)
     (take_all index outputs long) (c.loop-output.invariant.answered first before known)

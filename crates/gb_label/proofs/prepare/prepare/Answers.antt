@@ -18,9 +18,9 @@ returns-in_ok-found-in-Open-clause-answered g c = λ first before known.
     let inputs = c.in-Open.inputs.items in
     let found = c.in_ok-found-in-Open.found in (
       (subst (MayBe task) c.in-Open.is c.in_ok-early_case_of.ensures.may_be).2,
-      inputs_longer (requests_nothing first) c.decided.ensures.requests task inputs
-          (subst (λ (look : EarlyCase). IsEarlyCaseRead F.failures F.may_leave F.allowed first mid task look) c.in-Open.is (c.in_ok-early_case_of.ensures.answered first before known)),
-      subst (λ (observed : List Read). WasDecided F.failures F.may_leave F.allowed first new c.args.options task last observed found.decision found.outputs.items)
+      inputs_longer (requests_nothing first) c.decided.ensures.reads.requests task inputs
+          (subst (λ (look : EarlyCase). IsEarlyCaseRead F.device first mid task look) c.in-Open.is (c.in_ok-early_case_of.ensures.answered first before known)),
+      subst (λ (observed : List Read). WasDecided F.device first new c.args.options task last observed found.decision found.outputs.items)
           c.as_slice-in-Open.ensures.value
-          (c.in_ok-found-in-Open.ensures.answered first (requests_then before c.early_case_of.ensures.requests) (seen_longer (requests_nothing first) c.early_case_of.ensures.requests c.args.seen.now known)),
+          (c.in_ok-found-in-Open.ensures.answered first (requests_then before c.early_case_of.ensures.reads.requests) (seen_longer (requests_nothing first) c.early_case_of.ensures.reads.requests c.args.seen.now known)),
     )

@@ -1,4 +1,4 @@
-use Rattle.std.proofs.Common.{◌≡◌, ◌++◌, ◌∙◌, ℕ, List, [], ◌∷◌, false, ap, arith, drop, length, refl, sym}
+use Rattle.std.proofs.Common.{◌≡◌, ◌++◌, ◌∙◌, List, [], ◌∷◌, false, ap, arith, drop, length, refl, sym}
 use Rattle.std.specs.Prelude.{◌==◌}
 use Rattle.std.specs.Vec.{vec_len}
 use Rattle.std.specs.List.{flat_map}
@@ -13,7 +13,7 @@ some_shown files (place ∷ places) some = refl
 
 pub returns-clause-shown : goal.returns-clause-shown
 returns-clause-shown g c = λ faithful.
-    let files = (g.F.Folder.contents c.args.folder.now).files in
+    let files = (g.F.Folder.device.contents c.args.folder.now).files in
     let so_far = c.loop-place.invariant in
     let items = c.deref-place-items.result.now in
     let text = c.loop-place.text.items in

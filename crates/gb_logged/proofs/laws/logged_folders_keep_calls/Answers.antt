@@ -2,4 +2,4 @@ use Rattle.gb_logged.proofs.Keeping.{all_kept}
 use Rattle.gb_logged.proofs.laws.logged_folders_keep_calls.Goals as goal
 
 pub returns : goal.returns
-returns g c = all_kept g.F.Folder.failures g.F.Folder.may_leave g.F.Folder.allowed
+returns g c = all_kept g.F.Folder.device

@@ -45,7 +45,7 @@ pub loop-at-preserved : goal.loop-at-preserved
 loop-at-preserved g c =
     let F = g.F.Folder in
     let inv = c.loop-at.invariant in
-    let back = c.prediction.ensures.back in
+    let back = c.prediction.ensures.reads.requests.back in
     let plan = c.args.plan.now in
     let records = c.args.records.now in
     let at = c.loop-at.at in
@@ -53,10 +53,10 @@ loop-at-preserved g c =
     let one : Prediction = c.in_ok-one.one in
     let planned : Planned = c.index-plan-at.result in
     let last : Option Record = c.index-records-at.result in
-    let old : Contents = F.contents c.args.folder.now in
-    let begun = F.failures c.args.folder.now in
-    let mid = F.failures c.loop-at.folder in
-    let new = F.failures c.prediction.new.folder in
+    let old : Contents = F.device.contents c.args.folder.now in
+    let begun = F.device.failures c.args.folder.now in
+    let mid = F.device.failures c.loop-at.folder in
+    let new = F.device.failures c.prediction.new.folder in
     let more = c.in_ok-keep.ensures.items in
     let here =
     subst (λ (ones : List Prediction). one.after ≡ mark (zip plan ones) planned.task one.coming) c.as_slice-in-loop-at.ensures.value
@@ -67,9 +67,9 @@ loop-at-preserved g c =
     ∙ ap (λ (path : List ℕ). cond (is_some (culprit one) && bytes_eq path other) (Some at) (number_at c.loop-at.not_starting other)) (sym c.in_ok-one.ensures.path)
     ∙ ap (λ n. cond (is_some (culprit one) && bytes_eq one.path other) (Some n) (number_at c.loop-at.not_starting other)) (sym inv.count) in
     record {
-      requests = requests_then inv.requests c.prediction.ensures.requests;
+      requests = requests_then inv.requests c.prediction.ensures.reads.requests;
       back = λ known. inv.back (back known);
-      same = λ faithful. c.prediction.ensures.same faithful ∙ inv.same (back faithful);
+      same = λ faithful. c.prediction.ensures.reads.same faithful ∙ inv.same (back faithful);
       count = ap length more ∙ length-append reported (one ∷ []) ∙ ap (λ n. n + 1) inv.count;
       paths =
           path_more (λ (p : Planned). p.task.path) plan (map (λ (f : Prediction). f.path) reported) _ at planned c.loop-at-test.true c.index-plan-at.is inv.paths
@@ -84,9 +84,9 @@ loop-at-preserved g c =
           subst (AllZip (Is new) (take (at + 1) (zip plan records))) (sym more)
           (related_more (Is new) plan records reported at planned last one c.loop-at-test.true (omega (arith, c.loop-at-test.true, c.requires.each)) c.index-plan-at.is c.index-records-at.is
           (all_related (Is mid) (Is new)
-          (λ pair f is. prediction_wider kinds c.args.options pair.0.task old pair.1 begun begun mid new f.coming (omega arith) inv.requests.count c.prediction.ensures.requests.count is)
+          (λ pair f is. prediction_wider kinds c.args.options pair.0.task old pair.1 begun begun mid new f.coming (omega arith) inv.requests.count c.prediction.ensures.reads.requests.count is)
           (take at (zip plan records)) reported (inv.prediction (back faithful) kinds agrees))
-          (prediction_wider kinds c.args.options planned.task old last begun mid new new one.coming inv.requests.count c.prediction.ensures.requests.count (omega arith)
+          (prediction_wider kinds c.args.options planned.task old last begun mid new new one.coming inv.requests.count c.prediction.ensures.reads.requests.count (omega arith)
           (subst (λ (read : Option Record). IsPredictedOf kinds c.args.options planned.task old read mid new one.coming) c.as_ref-last.ensures.value
           (subst (λ (folder : Contents). IsPredictedOf kinds c.args.options planned.task folder (option_copied c.as_ref-last.result) mid new one.coming) (inv.same (back faithful))
           (c.in_ok-one.ensures.prediction faithful kinds agrees)))));
@@ -102,5 +102,5 @@ returns-clause-marked g c =
 pub returns-clause-prediction : goal.returns-clause-prediction
 returns-clause-prediction g c = λ faithful kinds agrees.
     let F = g.F.Folder in
-    subst (λ (pairs : List (Planned × Option Record)). AllZip (λ pair (f : Prediction). IsPredictedOf kinds c.args.options pair.0.task (F.contents c.args.folder.now) pair.1 (F.failures c.args.folder.now) (F.failures c.loop-at.folder) f.coming) pairs c.loop-at.reported.items)
+    subst (λ (pairs : List (Planned × Option Record)). AllZip (λ pair (f : Prediction). IsPredictedOf kinds c.args.options pair.0.task (F.device.contents c.args.folder.now) pair.1 (F.device.failures c.args.folder.now) (F.device.failures c.loop-at.folder) f.coming) pairs c.loop-at.reported.items)
     (all_pairs c.args.plan.now c.args.records.now c.loop-at.at c.loop-at-test.false) (c.loop-at.invariant.prediction faithful kinds agrees)

@@ -14,15 +14,15 @@ abbrev pub invariant-loop-at : goal.invariant-loop-at
 invariant-loop-at g l =
     let F = g.F.Folder in
     record {
-      requests : Requests F.failures F.may_leave F.allowed no_change l.fn.folder l.folder;
-      back : F.faithful l.folder → F.faithful l.fn.folder;
-      same : F.faithful l.folder → F.contents l.folder ≡ F.contents l.fn.folder;
+      requests : Requests F.device no_change l.fn.folder l.folder;
+      back : F.device.faithful l.folder → F.device.faithful l.fn.folder;
+      same : F.device.faithful l.folder → F.device.contents l.folder ≡ F.device.contents l.fn.folder;
       count : length l.reported.items ≡ l.at;
       paths : map (λ (one : Prediction). one.path) l.reported.items ≡ order (take l.at l.plan);
       reasoned : AllByRecursion (λ (one : Prediction). IsReasoned one.coming) l.reported.items;
       not_starting : AreNotStarting l.reported.items l.not_starting;
       marked : AreMarkedAfter [] (zip (take l.at l.plan) l.reported.items);
-      prediction : F.faithful l.folder → (kinds : Kinds) → Agrees g.A.Actions.meanings l.table kinds
-          → AllZip (λ pair (one : Prediction). IsPredictedOf kinds l.options pair.0.task (F.contents l.fn.folder) pair.1 (F.failures l.fn.folder) (F.failures l.folder) one.coming)
+      prediction : F.device.faithful l.folder → (kinds : Kinds) → Agrees g.A.Actions.meanings l.table kinds
+          → AllZip (λ pair (one : Prediction). IsPredictedOf kinds l.options pair.0.task (F.device.contents l.fn.folder) pair.1 (F.device.failures l.fn.folder) (F.device.failures l.folder) one.coming)
           (take l.at (zip l.plan l.records)) l.reported.items;
     }

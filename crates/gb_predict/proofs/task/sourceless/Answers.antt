@@ -7,7 +7,7 @@ use Rattle.gb_predict.proofs.task.sourceless.Goals as goal
 
 pub returns-clause-removes : goal.returns-clause-removes
 returns-clause-removes g c = λ faithful.
-    let files = (g.F.Folder.contents c.args.folder.now).files in (
+    let files = (g.F.Folder.device.contents c.args.folder.now).files in (
       not c.is_empty.result,
       refl,
       ap not

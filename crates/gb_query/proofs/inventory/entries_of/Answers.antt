@@ -11,13 +11,13 @@ loop-place-preserved g c =
     let registered = c.args.registered.now in
     let place = c.place-item.result in
     let entry = c.in_ok-entry_of.field-0 in
-    let back = c.entry_of.ensures.back in
+    let back = c.entry_of.ensures.reads.requests.back in
     record {
-      requests = requests_then c.loop-place.invariant.requests c.entry_of.ensures.requests;
+      requests = requests_then c.loop-place.invariant.requests c.entry_of.ensures.reads.requests;
       back = λ known. c.loop-place.invariant.back (back known);
-      same = λ faithful. c.entry_of.ensures.same faithful ∙ c.loop-place.invariant.same (back faithful);
+      same = λ faithful. c.entry_of.ensures.reads.same faithful ∙ c.loop-place.invariant.same (back faithful);
       entries = λ faithful.
-          read_more (IsEntryOf (F.contents c.args.folder.now).files registered) c.args.places.now c.loop-place.place-index place c.loop-place.entries.items _ entry
+          read_more (IsEntryOf (F.device.contents c.args.folder.now).files registered) c.args.places.now c.loop-place.place-index place c.loop-place.entries.items _ entry
           c.loop-place-test.true
           c.place-item.is
           (c.loop-place.invariant.entries (back faithful))

@@ -8,8 +8,8 @@ abbrev pub invariant-loop-place : goal.invariant-loop-place
 invariant-loop-place g l =
     let F = g.F.Folder in
     record {
-      requests : Requests F.failures F.may_leave F.allowed no_change l.fn.folder l.folder;
-      back : F.faithful l.folder → F.faithful l.fn.folder;
-      same : F.faithful l.folder → F.contents l.folder ≡ F.contents l.fn.folder;
-      entries : F.faithful l.folder → AllZip (IsEntryOf (F.contents l.fn.folder).files l.registered) (take l.place-index l.places) l.entries.items;
+      requests : Requests F.device no_change l.fn.folder l.folder;
+      back : F.device.faithful l.folder → F.device.faithful l.fn.folder;
+      same : F.device.faithful l.folder → F.device.contents l.folder ≡ F.device.contents l.fn.folder;
+      entries : F.device.faithful l.folder → AllZip (IsEntryOf (F.device.contents l.fn.folder).files l.registered) (take l.place-index l.places) l.entries.items;
     }

@@ -9,7 +9,7 @@ returns-then-is_among-clause-left g c = λ faithful place owner. known c.args.pa
 
 pub returns-else-is_among-clause-left : goal.returns-else-is_among-clause-left
 returns-else-is_among-clause-left g c = λ faithful.
-    let files = (g.F.Folder.contents c.args.folder.now).files in
+    let files = (g.F.Folder.device.contents c.args.folder.now).files in
     let registered = c.args.registered.now in
     let path = c.args.path.now in
     IfOk-weaker c.has_record.result _ _

@@ -17,12 +17,12 @@ loop-place-preserved g c =
     let place = c.place-item.result in
     let index = c.loop-place.place-index in
     let before = c.loop-place.left.items in
-    let back = c.push_left.ensures.back in
-    let files = (F.contents c.args.folder.now).files in
+    let back = c.push_left.ensures.reads.requests.back in
+    let files = (F.device.contents c.args.folder.now).files in
     record {
-      requests = requests_then c.loop-place.invariant.requests c.push_left.ensures.requests;
+      requests = requests_then c.loop-place.invariant.requests c.push_left.ensures.reads.requests;
       back = λ known. c.loop-place.invariant.back (back known);
-      same = λ faithful. c.push_left.ensures.same faithful ∙ c.loop-place.invariant.same (back faithful);
+      same = λ faithful. c.push_left.ensures.reads.same faithful ∙ c.loop-place.invariant.same (back faithful);
       left = λ faithful more rest.
           let added = c.in_ok-push_left.ensures.left faithful in
           let row = added.0 in
@@ -36,7 +36,7 @@ loop-place-preserved g c =
 pub returns-clause-left : goal.returns-clause-left
 returns-clause-left g c = λ faithful.
     let F = g.F.Folder in
-    let files = (F.contents c.args.folder.now).files in
+    let files = (F.device.contents c.args.folder.now).files in
     let registered = c.args.registered.now in
     let places = c.args.places.now in
     let left = c.loop-place.left.items in
@@ -46,7 +46,7 @@ returns-clause-left g c = λ faithful.
 
 pub returns-in_err-push_left-clause-err : goal.returns-in_err-push_left-clause-err
 returns-in_err-push_left-clause-err g c =
-    let failures = g.F.Folder.failures in
+    let failures = g.F.Folder.device.failures in
     let fault = c.in_err-push_left.field-0.0 in
     handed (IsOfMachine (failures c.args.folder.now) (failures c.push_left.new.folder)) c.from_residual.result fault c.from_residual.ensures.1
-    (machine_before _ _ _ fault c.loop-place.invariant.requests.count c.push_left.ensures.requests.count c.in_err-push_left.ensures.err)
+    (machine_before _ _ _ fault c.loop-place.invariant.requests.count c.push_left.ensures.reads.requests.count c.in_err-push_left.ensures.err)

@@ -8,8 +8,8 @@ abbrev pub invariant-loop-place : goal.invariant-loop-place
 invariant-loop-place g l =
     let F = g.F.Folder in
     record {
-      requests : Requests F.failures F.may_leave F.allowed no_change l.fn.folder l.folder;
-      back : F.faithful l.folder → F.faithful l.fn.folder;
-      same : F.faithful l.folder → F.contents l.folder ≡ F.contents l.fn.folder;
-      left : F.faithful l.folder → (more : List Path) → AreLeftAt (F.contents l.fn.folder).files l.registered (drop l.place-index l.places) more → AreLeftAt (F.contents l.fn.folder).files l.registered l.places (l.left.items ++ more);
+      requests : Requests F.device no_change l.fn.folder l.folder;
+      back : F.device.faithful l.folder → F.device.faithful l.fn.folder;
+      same : F.device.faithful l.folder → F.device.contents l.folder ≡ F.device.contents l.fn.folder;
+      left : F.device.faithful l.folder → (more : List Path) → AreLeftAt (F.device.contents l.fn.folder).files l.registered (drop l.place-index l.places) more → AreLeftAt (F.device.contents l.fn.folder).files l.registered l.places (l.left.items ++ more);
     }

@@ -19,25 +19,25 @@ use Rattle.gb_records.proofs.keeping.delete_record.Goals as goal
 
 pub returns-then-not-was_read-clause-exists : goal.returns-then-not-was_read-clause-exists
 returns-then-not-was_read-clause-exists g c = λ faithful observed memory existed none.
-    not_there (g.F.Folder.contents c.args.folder.now).files memory c.args.path.now c.as_str-path.ensures.path existed (none c.if-not-was_read.true)
+    not_there (g.F.Folder.device.contents c.args.folder.now).files memory c.args.path.now c.as_str-path.ensures.path existed (none c.if-not-was_read.true)
 
 pub returns-in-Ok-clause-out : goal.returns-in-Ok-clause-out
 returns-in-Ok-clause-out g c = λ faithful.
-    let old = g.F.Folder.contents c.args.folder.now in
+    let old = g.F.Folder.device.contents c.args.folder.now in
     c.in-Ok.ensures.removed faithful ∙ ap (λ p. record old { files = without old.files p }) c.in_ok-place.ensures.place
     ∙ ap (λ b. taken_out b c.args.path.now old) (sym c.if-not-was_read.false)
 
 pub returns-in-Ok-clause-exists : goal.returns-in-Ok-clause-exists
 returns-in-Ok-clause-exists g c = λ faithful observed memory existed none.
-    let old = g.F.Folder.contents c.args.folder.now in
-    gone c.args.path.now old (g.F.Folder.contents c.remove.new.self) memory c.in_ok-place.ensures.path
+    let old = g.F.Folder.device.contents c.args.folder.now in
+    gone c.args.path.now old (g.F.Folder.device.contents c.remove.new.self) memory c.in_ok-place.ensures.path
     (c.in-Ok.ensures.removed faithful ∙ ap (λ p. record old { files = without old.files p }) c.in_ok-place.ensures.place) existed
 
 pub returns : goal.returns
 returns g c =
     let F = g.F.Folder in
-    let old = F.contents c.args.folder.now in
-    let new = F.contents c.remove.new.self in
+    let old = F.device.contents c.args.folder.now in
+    let new = F.device.contents c.remove.new.self in
     let path = c.args.path.now in
     let fault = c.in-Err.fault in
     let at : c.in_ok-place.place ≡ record_place path = c.in_ok-place.ensures.place in
@@ -45,20 +45,19 @@ returns g c =
     let allowed = c.remove.ensures in
     let said = c.remove.ensures in
     let called : IsCalled F.device c.args.folder.now (Removes c.in_ok-place.place c.remove.result) c.remove.new.self =
-    g.met.F.Folder.called c.args.folder.now (Removes c.in_ok-place.place c.remove.result) c.remove.new.self (record {
+    record {
       allowed = said.call;
       well = removes_well c.remove.result said.not_large said.not_named;
       count = said.requests.count;
       tearing = said.requests.tearing;
-      risen = λ is. said.device (change_failed c.remove.result is);
-      back = said.back;
-      exact = λ faithful. removed (F.may_leave c.args.folder.now) (F.contents c.args.folder.now) c.in_ok-place.place c.remove.result (F.contents c.remove.new.self)
+      risen = λ is. said.risen (change_failed c.remove.result is);
+      back = said.requests.back;
+      exact = λ faithful. removed (F.device.may_leave c.args.folder.now) (F.device.contents c.args.folder.now) c.in_ok-place.place c.remove.result (F.device.contents c.remove.new.self)
           said.not_large said.not_named (said.removed faithful) (said.existed faithful) (said.missing faithful) (said.missing_free faithful) (said.blocked faithful) (said.same faithful) (said.torn faithful);
-    }) in
+    } in
     record {
       calls = deletion_called F.device path c.args.was_read c.in_ok-place.place c.args.folder.now c.remove.new.self c.remove.result c.unless_missing.result c.if-not-was_read.false at called
           (c.unless_missing.ensures ∙ ap deletion_ending (sym c.in-Err.is));
-      back = said.back;
       requests = taken_as c.in_ok-place.place (record_place path) at allowed.requests;
       unread = λ e. absurd (true≢false (sym c.if-not-was_read.false ∙ e));
       out = λ faithful.
@@ -67,16 +66,16 @@ returns g c =
           (out_of path old new fault sound (c.in-Err.ensures.same faithful)
           (λ e. subst (λ p. file_at old.files p ≡ None) at (allowed.missing faithful (c.in-Err.is ∙ ap Err e)))));
       err = λ faithful.
-          subst (λ r. IfErr r (λ reported. ComesToNothing (F.may_leave c.args.folder.now) path None (F.failures c.args.folder.now) (F.failures c.remove.new.self) old reported new)) (sym c.unless_missing.ensures)
-          (nothing_of (F.may_leave c.args.folder.now) path _ _ old new fault (c.in-Err.ensures.same faithful) (λ e. allowed.device (c.in-Err.is ∙ ap Err e))
-          (λ e. subst (λ p. LeftAt (F.may_leave c.args.folder.now) p None old new) at (allowed.torn faithful (c.in-Err.is ∙ ap Err e)))
+          subst (λ r. IfErr r (λ reported. ComesToNothing (F.device.may_leave c.args.folder.now) path None (F.device.failures c.args.folder.now) (F.device.failures c.remove.new.self) old reported new)) (sym c.unless_missing.ensures)
+          (nothing_of (F.device.may_leave c.args.folder.now) path _ _ old new fault (c.in-Err.ensures.same faithful) (λ e. allowed.risen (c.in-Err.is ∙ ap Err e))
+          (λ e. subst (λ p. LeftAt (F.device.may_leave c.args.folder.now) p None old new) at (allowed.torn faithful (c.in-Err.is ∙ ap Err e)))
           (λ e. subst (λ p. is_blocked old.files p ≡ true) at (allowed.blocked faithful (c.in-Err.is ∙ ap Err e)))
           (λ e. allowed.not_large (c.in-Err.is ∙ ap Err e)) (λ e. allowed.not_named (c.in-Err.is ∙ ap Err e)));
       exists = λ faithful observed memory existed none.
           subst (λ r. HoldsWithout path memory r new.files) (sym c.unless_missing.ensures)
-          (exists_out (F.may_leave c.args.folder.now) path old new fault memory c.in_ok-place.ensures.path sound (c.in-Err.ensures.same faithful)
+          (exists_out (F.device.may_leave c.args.folder.now) path old new fault memory c.in_ok-place.ensures.path sound (c.in-Err.ensures.same faithful)
           (λ e. subst (λ p. file_at old.files p ≡ None) at (allowed.missing faithful (c.in-Err.is ∙ ap Err e)))
-          (λ e. subst (λ p. LeftAt (F.may_leave c.args.folder.now) p None old new) at (allowed.torn faithful (c.in-Err.is ∙ ap Err e))) observed existed);
+          (λ e. subst (λ p. LeftAt (F.device.may_leave c.args.folder.now) p None old new) at (allowed.torn faithful (c.in-Err.is ∙ ap Err e))) observed existed);
     }
 
 pub returns-in-Ok-clause-requests : goal.returns-in-Ok-clause-requests
@@ -87,16 +86,16 @@ returns-in-Ok-clause-calls g c =
     let F = g.F.Folder in
     let said = c.remove.ensures in
     let called : IsCalled F.device c.args.folder.now (Removes c.in_ok-place.place c.remove.result) c.remove.new.self =
-    g.met.F.Folder.called c.args.folder.now (Removes c.in_ok-place.place c.remove.result) c.remove.new.self (record {
+    record {
       allowed = said.call;
       well = removes_well c.remove.result said.not_large said.not_named;
       count = said.requests.count;
       tearing = said.requests.tearing;
-      risen = λ is. said.device (change_failed c.remove.result is);
-      back = said.back;
-      exact = λ faithful. removed (F.may_leave c.args.folder.now) (F.contents c.args.folder.now) c.in_ok-place.place c.remove.result (F.contents c.remove.new.self)
+      risen = λ is. said.risen (change_failed c.remove.result is);
+      back = said.requests.back;
+      exact = λ faithful. removed (F.device.may_leave c.args.folder.now) (F.device.contents c.args.folder.now) c.in_ok-place.place c.remove.result (F.device.contents c.remove.new.self)
           said.not_large said.not_named (said.removed faithful) (said.existed faithful) (said.missing faithful) (said.missing_free faithful) (said.blocked faithful) (said.same faithful) (said.torn faithful);
-    }) in
+    } in
     deletion_called F.device c.args.path.now c.args.was_read c.in_ok-place.place c.args.folder.now c.remove.new.self c.remove.result (Ok tt) c.if-not-was_read.false c.in_ok-place.ensures.place called
     (ap deletion_ending (sym c.in-Ok.is))
 

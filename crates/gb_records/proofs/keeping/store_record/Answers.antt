@@ -30,32 +30,32 @@ text_of path run bytes is utf8 held short = text_said path run utf8 held (subst 
 
 pub returns-in-Ok-clause-exists : goal.returns-in-Ok-clause-exists
 returns-in-Ok-clause-exists g c = λ faithful observed memory entry existed of.
-    let old = g.F.Folder.contents c.args.folder.now in
+    let old = g.F.Folder.device.contents c.args.folder.now in
     let path = c.args.path.now in
     let run = c.args.run.now in
     let text : c.as_slice.result.now ≡ record_text path run = c.as_slice.ensures.value ∙ c.in_ok-text.ensures.text in
     let long : length c.in_ok-text.text.items ≡ length (record_text path run) = ap length c.in_ok-text.ensures.text in
     let short : length (record_text path run) ≤ max_record = omega arith in
     let reported : IsText path run (record_text path run) = text_said path run c.in_ok-text.ensures.utf8 c.in_ok-text.ensures.held short in
-    put path old (g.F.Folder.contents c.write.new.self) memory entry run c.in_ok-place.ensures.path
+    put path old (g.F.Folder.device.contents c.write.new.self) memory entry run c.in_ok-place.ensures.path
     (c.in-Ok.ensures.written faithful ∙ ap (λ p. record old { files = with_file old.files p c.as_slice.result.now }) c.in_ok-place.ensures.place
     ∙ ap (λ t. record old { files = with_file old.files (record_place path) t }) text) reported of existed
 
 pub returns-clause-exists : goal.returns-clause-exists
 returns-clause-exists g c = λ faithful observed memory entry existed of.
     let F = g.F.Folder in
-    let old = F.contents c.args.folder.now in
-    let new = F.contents c.write.new.self in
+    let old = F.device.contents c.args.folder.now in
+    let new = F.device.contents c.write.new.self in
     let path = c.args.path.now in
     let run = c.args.run.now in
     let text : c.as_slice.result.now ≡ record_text path run = c.as_slice.ensures.value ∙ c.in_ok-text.ensures.text in
     let long : length c.in_ok-text.text.items ≡ length (record_text path run) = ap length c.in_ok-text.ensures.text in
     let short : length (record_text path run) ≤ max_record = omega arith in
     let reported : IsText path run (record_text path run) = text_said path run c.in_ok-text.ensures.utf8 c.in_ok-text.ensures.held short in
-    let torn = λ (e : c.in-Err.fault ≡ folders.Device). subst (λ t. LeftAt (F.may_leave c.args.folder.now) (record_place path) (Some t) old new) text
-    (subst (λ p. LeftAt (F.may_leave c.args.folder.now) p (Some c.as_slice.result.now) old new) c.in_ok-place.ensures.place (c.write.ensures.torn faithful (c.in-Err.is ∙ ap Err e))) in
+    let torn = λ (e : c.in-Err.fault ≡ folders.Device). subst (λ t. LeftAt (F.device.may_leave c.args.folder.now) (record_place path) (Some t) old new) text
+    (subst (λ p. LeftAt (F.device.may_leave c.args.folder.now) p (Some c.as_slice.result.now) old new) c.in_ok-place.ensures.place (c.write.ensures.torn faithful (c.in-Err.is ∙ ap Err e))) in
     subst (λ r. HoldsWith path entry memory (Err r) new.files) (sym c.unwritten_by.ensures)
-    (exists_in (F.may_leave c.args.folder.now) path old new c.in-Err.fault memory entry run c.in_ok-place.ensures.path (c.in-Err.ensures.same faithful) torn observed reported of existed)
+    (exists_in (F.device.may_leave c.args.folder.now) path old new c.in-Err.fault memory entry run c.in_ok-place.ensures.path (c.in-Err.ensures.same faithful) torn observed reported of existed)
 
 pub returns-in-Ok-clause-requests : goal.returns-in-Ok-clause-requests
 returns-in-Ok-clause-requests g c =
@@ -78,16 +78,16 @@ returns-in-Ok-clause-calls g c =
     let path = c.args.path.now in
     let text = record_text path c.args.run.now in
     let called : IsCalled F.device old (Writes place bytes max_record c.write.result) new =
-    g.met.F.Folder.called old (Writes place bytes max_record c.write.result) new (record {
+    record {
       allowed = said.call;
       well = writes_well bytes max_record c.write.result said.within said.large said.not_missing said.not_named;
       count = said.requests.count;
       tearing = said.requests.tearing;
-      risen = λ is. said.device (change_failed c.write.result is);
-      back = said.back;
-      exact = λ faithful. wrote (F.may_leave old) (F.contents old) place bytes max_record c.write.result (F.contents new) said.within
+      risen = λ is. said.risen (change_failed c.write.result is);
+      back = said.requests.back;
+      exact = λ faithful. wrote (F.device.may_leave old) (F.device.contents old) place bytes max_record c.write.result (F.device.contents new) said.within
           said.large said.not_missing said.not_named (said.written faithful) (said.free faithful) (said.blocked faithful) (said.same faithful) (said.torn faithful);
-    }) in
+    } in
     storing_called F.device path c.args.run.now place bytes old new c.write.result (Ok tt)
     c.in_ok-place.ensures.place (c.as_slice.ensures.value ∙ c.in_ok-text.ensures.text) called (ap storing_ending (sym c.in-Ok.is))
     (text_of path c.args.run.now c.in_ok-text.text.items c.in_ok-text.ensures.text c.in_ok-text.ensures.utf8 c.in_ok-text.ensures.held (omega arith))
@@ -103,16 +103,16 @@ returns-clause-calls g c =
     let path = c.args.path.now in
     let text = record_text path c.args.run.now in
     let called : IsCalled F.device old (Writes place bytes max_record c.write.result) new =
-    g.met.F.Folder.called old (Writes place bytes max_record c.write.result) new (record {
+    record {
       allowed = said.call;
       well = writes_well bytes max_record c.write.result said.within said.large said.not_missing said.not_named;
       count = said.requests.count;
       tearing = said.requests.tearing;
-      risen = λ is. said.device (change_failed c.write.result is);
-      back = said.back;
-      exact = λ faithful. wrote (F.may_leave old) (F.contents old) place bytes max_record c.write.result (F.contents new) said.within
+      risen = λ is. said.risen (change_failed c.write.result is);
+      back = said.requests.back;
+      exact = λ faithful. wrote (F.device.may_leave old) (F.device.contents old) place bytes max_record c.write.result (F.device.contents new) said.within
           said.large said.not_missing said.not_named (said.written faithful) (said.free faithful) (said.blocked faithful) (said.same faithful) (said.torn faithful);
-    }) in
+    } in
     storing_called F.device path c.args.run.now place bytes old new c.write.result (Err c.unwritten_by.result)
     c.in_ok-place.ensures.place (c.as_slice.ensures.value ∙ c.in_ok-text.ensures.text) called (ap Err c.unwritten_by.ensures ∙ ap storing_ending (sym c.in-Err.is))
     (text_of path c.args.run.now c.in_ok-text.text.items c.in_ok-text.ensures.text c.in_ok-text.ensures.utf8 c.in_ok-text.ensures.held (omega arith))

@@ -35,21 +35,21 @@ fours-preserved g c =
     let others = c.in-Some.others.now in
     let parts : four ++ others ≡ c.fours.rest.now = parted 4 c.fours.rest.now c.in-Some.four.now c.in-Some.others.now c.in-Some.ensures.cases.0 c.in-Some.ensures.cases.1 in
     record {
-      requests = requests_then so_far.requests c.read_some.ensures.requests;
-      back = λ known. so_far.back (c.read_some.ensures.back known);
-      same = λ faithful. c.read_some.ensures.same faithful ∙ so_far.same (c.read_some.ensures.back faithful);
+      requests = requests_then so_far.requests c.read_some.ensures.reads.requests;
+      back = λ known. so_far.back (c.read_some.ensures.reads.requests.back known);
+      same = λ faithful. c.read_some.ensures.reads.same faithful ∙ so_far.same (c.read_some.ensures.reads.requests.back faithful);
       done = (
         done.0 ++ four,
         append_assoc done.0 four others ∙ ap (λ (rest : List Path). done.0 ++ rest) parts ∙ done.1,
-        subst (AllZip (WasAnswered F.failures F.may_leave F.allowed start now) (done.0 ++ four)) (sym c.in_ok-append.ensures.items)
-            (zip_append (WasAnswered F.failures F.may_leave F.allowed start now) done.0 four c.fours.records.items c.in_ok-found.found.items
-            (all_zip_more (WasAnswered F.failures F.may_leave F.allowed start before) (WasAnswered F.failures F.may_leave F.allowed start now)
-            (answered_longer start start before now (requests_nothing start) c.read_some.ensures.requests) done.0 c.fours.records.items done.2)
-            (all_zip_more (WasAnswered F.failures F.may_leave F.allowed before now) (WasAnswered F.failures F.may_leave F.allowed start now)
+        subst (AllZip (WasAnswered F.device start now) (done.0 ++ four)) (sym c.in_ok-append.ensures.items)
+            (zip_append (WasAnswered F.device start now) done.0 four c.fours.records.items c.in_ok-found.found.items
+            (all_zip_more (WasAnswered F.device start before) (WasAnswered F.device start now)
+            (answered_longer start start before now (requests_nothing start) c.read_some.ensures.reads.requests) done.0 c.fours.records.items done.2)
+            (all_zip_more (WasAnswered F.device before now) (WasAnswered F.device start now)
             (answered_longer start before now now so_far.requests (requests_nothing now)) four c.in_ok-found.found.items c.in_ok-found.ensures.answered)),
-        λ faithful. subst (AllZip (IsReadAt (F.contents start).files) (done.0 ++ four)) (sym c.in_ok-append.ensures.items)
-            (zip_append (IsReadAt (F.contents start).files) done.0 four c.fours.records.items c.in_ok-found.found.items (done.3 (c.read_some.ensures.back faithful))
-            (subst (λ (at : Contents). AllZip (IsReadAt at.files) four c.in_ok-found.found.items) (so_far.same (c.read_some.ensures.back faithful)) (c.in_ok-found.ensures.read faithful))),
+        λ faithful. subst (AllZip (IsReadAt (F.device.contents start).files) (done.0 ++ four)) (sym c.in_ok-append.ensures.items)
+            (zip_append (IsReadAt (F.device.contents start).files) done.0 four c.fours.records.items c.in_ok-found.found.items (done.3 (c.read_some.ensures.reads.requests.back faithful))
+            (subst (λ (at : Contents). AllZip (IsReadAt at.files) four c.in_ok-found.found.items) (so_far.same (c.read_some.ensures.reads.requests.back faithful)) (c.in_ok-found.ensures.read faithful))),
       );
     }
 
@@ -61,10 +61,10 @@ returns-clause-read g c = λ faithful.
     let done = so_far.done in
     let rest = c.fours.rest.now in
     let found = c.in_ok-found-2.found.items in
-    subst (λ (paths : List Path). AllZip (IsReadAt (F.contents start).files) paths c.append-2.new.self.items) done.1
-    (subst (AllZip (IsReadAt (F.contents start).files) (done.0 ++ rest)) (sym c.in_ok-append-2.ensures.items)
-    (zip_append (IsReadAt (F.contents start).files) done.0 rest c.fours.records.items found (done.3 (c.read_some-2.ensures.back faithful))
-    (subst (λ (at : Contents). AllZip (IsReadAt at.files) rest found) (so_far.same (c.read_some-2.ensures.back faithful)) (c.in_ok-found-2.ensures.read faithful))))
+    subst (λ (paths : List Path). AllZip (IsReadAt (F.device.contents start).files) paths c.append-2.new.self.items) done.1
+    (subst (AllZip (IsReadAt (F.device.contents start).files) (done.0 ++ rest)) (sym c.in_ok-append-2.ensures.items)
+    (zip_append (IsReadAt (F.device.contents start).files) done.0 rest c.fours.records.items found (done.3 (c.read_some-2.ensures.reads.requests.back faithful))
+    (subst (λ (at : Contents). AllZip (IsReadAt at.files) rest found) (so_far.same (c.read_some-2.ensures.reads.requests.back faithful)) (c.in_ok-found-2.ensures.read faithful))))
 
 pub returns-clause-answered : goal.returns-clause-answered
 returns-clause-answered g c =
@@ -76,10 +76,10 @@ returns-clause-answered g c =
     let done = so_far.done in
     let rest = c.fours.rest.now in
     let found = c.in_ok-found-2.found.items in
-    subst (λ (paths : List Path). AllZip (WasAnswered F.failures F.may_leave F.allowed start now) paths c.append-2.new.self.items) done.1
-    (subst (AllZip (WasAnswered F.failures F.may_leave F.allowed start now) (done.0 ++ rest)) (sym c.in_ok-append-2.ensures.items)
-    (zip_append (WasAnswered F.failures F.may_leave F.allowed start now) done.0 rest c.fours.records.items found
-    (all_zip_more (WasAnswered F.failures F.may_leave F.allowed start before) (WasAnswered F.failures F.may_leave F.allowed start now)
-    (answered_longer start start before now (requests_nothing start) c.read_some-2.ensures.requests) done.0 c.fours.records.items done.2)
-    (all_zip_more (WasAnswered F.failures F.may_leave F.allowed before now) (WasAnswered F.failures F.may_leave F.allowed start now)
+    subst (λ (paths : List Path). AllZip (WasAnswered F.device start now) paths c.append-2.new.self.items) done.1
+    (subst (AllZip (WasAnswered F.device start now) (done.0 ++ rest)) (sym c.in_ok-append-2.ensures.items)
+    (zip_append (WasAnswered F.device start now) done.0 rest c.fours.records.items found
+    (all_zip_more (WasAnswered F.device start before) (WasAnswered F.device start now)
+    (answered_longer start start before now (requests_nothing start) c.read_some-2.ensures.reads.requests) done.0 c.fours.records.items done.2)
+    (all_zip_more (WasAnswered F.device before now) (WasAnswered F.device start now)
     (answered_longer start before now now so_far.requests (requests_nothing now)) rest found c.in_ok-found-2.ensures.answered)))

@@ -11,12 +11,12 @@ abbrev pub invariant-fours : goal.invariant-fours
 invariant-fours g l =
     let F = g.F.Folder in
     record {
-      requests : Requests F.failures F.may_leave F.allowed no_change l.fn.folder l.folder;
-      back : F.faithful l.folder → F.faithful l.fn.folder;
-      same : F.faithful l.folder → F.contents l.folder ≡ F.contents l.fn.folder;
+      requests : Requests F.device no_change l.fn.folder l.folder;
+      back : F.device.faithful l.folder → F.device.faithful l.fn.folder;
+      same : F.device.faithful l.folder → F.device.contents l.folder ≡ F.device.contents l.fn.folder;
       done : (done : List Path) × (done ++ l.rest ≡ l.paths)
-          × AllZip (WasAnswered F.failures F.may_leave F.allowed l.fn.folder l.folder) done l.records.items
-          × (F.faithful l.folder → AllZip (IsReadAt (F.contents l.fn.folder).files) done l.records.items);
+          × AllZip (WasAnswered F.device l.fn.folder l.folder) done l.records.items
+          × (F.device.faithful l.folder → AllZip (IsReadAt (F.device.contents l.fn.folder).files) done l.records.items);
     }
 
 abbrev pub decreases-fours : goal.decreases-fours

@@ -10,7 +10,7 @@ use Rattle.gb_records.proofs.stored_records.read_some.Goals as goal
 
 pub returns-clause-read : goal.returns-clause-read
 returns-clause-read g c = λ faithful.
-    let files = (g.F.Folder.contents c.args.folder.now).files in
+    let files = (g.F.Folder.device.contents c.args.folder.now).files in
     let paths = c.args.paths.now in
     let texts = c.as_slice.result.now in
     ok_as c.records_in-records.result c.records_in-records.ensures.read
@@ -25,6 +25,6 @@ returns-clause-answered g c =
     let paths = c.args.paths.now in
     let texts = c.as_slice.result.now in
     ok_as c.records_in-records.result c.records_in-records.ensures.read
-    (λ records all. zip_through (WasStoredAt F.failures F.may_leave F.allowed old new) IsRecordOf (WasAnswered F.failures F.may_leave F.allowed old new)
-    (record_answered F.failures F.may_leave F.allowed old new) paths texts records.items
-    (subst (AllZip (WasStoredAt F.failures F.may_leave F.allowed old new) paths) (sym c.as_slice.ensures.value) c.in_ok-texts.ensures.answered) all)
+    (λ records all. zip_through (WasStoredAt F.device old new) IsRecordOf (WasAnswered F.device old new)
+    (record_answered F.device old new) paths texts records.items
+    (subst (AllZip (WasStoredAt F.device old new) paths) (sym c.as_slice.ensures.value) c.in_ok-texts.ensures.answered) all)

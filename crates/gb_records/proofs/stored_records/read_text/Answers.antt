@@ -13,12 +13,12 @@ use Rattle.gb_records.proofs.stored_records.read_text.Goals as goal
 
 pub returns-in-Err-clause-read : goal.returns-in-Err-clause-read
 returns-in-Err-clause-read g c = λ faithful.
-    placeless_read (g.F.Folder.contents c.args.folder.now).files c.args.path.now c.in-Err.fault c.none_if_no_place.result (g.met.F.Folder.placed c.args.folder.now)
+    placeless_read (g.F.Folder.device.contents c.args.folder.now).files c.args.path.now c.in-Err.fault c.none_if_no_place.result (g.met.F.Folder.placed c.args.folder.now)
     (λ e. c.record_place.ensures.bad (c.in-Err.is ∙ ap Err e)) c.none_if_no_place.ensures.bad c.none_if_no_place.ensures.out
 
 pub returns-in-Err-read-clause-read : goal.returns-in-Err-read-clause-read
 returns-in-Err-read-clause-read g c = λ faithful.
-    let files = (g.F.Folder.contents c.args.folder.now).files in
+    let files = (g.F.Folder.device.contents c.args.folder.now).files in
     let path = c.args.path.now in
     let at : c.in-Ok.place ≡ record_place path = c.in-Ok.ensures.place in
     let allowed = c.read.ensures in
@@ -32,13 +32,13 @@ returns-in-Err-read-clause-read g c = λ faithful.
 pub returns-in-Err-clause-answered : goal.returns-in-Err-clause-answered
 returns-in-Err-clause-answered g c =
     let F = g.F.Folder in
-    none_placed F.failures F.may_leave F.allowed c.args.folder.now c.args.folder.now c.args.path.now c.in-Err.fault c.none_if_no_place.result c.none_if_no_place.ensures.bad c.none_if_no_place.ensures.out
+    none_placed F.device c.args.folder.now c.args.folder.now c.args.path.now c.in-Err.fault c.none_if_no_place.result c.none_if_no_place.ensures.bad c.none_if_no_place.ensures.out
 
 pub returns-in-Err-read-clause-answered : goal.returns-in-Err-read-clause-answered
 returns-in-Err-read-clause-answered g c =
     let F = g.F.Folder in
-    subst (λ r. IfOk r (WasTextAnswered F.failures F.may_leave F.allowed c.args.folder.now c.read.new.self c.args.path.now)) (sym c.none_if_missing.ensures)
-    (none_existed F.failures F.may_leave F.allowed c.args.folder.now c.read.new.self c.args.path.now c.in-Ok.place c.in-Err-read.fault)
+    subst (λ r. IfOk r (WasTextAnswered F.device c.args.folder.now c.read.new.self c.args.path.now)) (sym c.none_if_missing.ensures)
+    (none_existed F.device c.args.folder.now c.read.new.self c.args.path.now c.in-Ok.place c.in-Err-read.fault)
 
 pub returns-in-Ok-read-clause-answered : goal.returns-in-Ok-read-clause-answered
 returns-in-Ok-read-clause-answered g c =
@@ -46,8 +46,8 @@ returns-in-Ok-read-clause-answered g c =
     let old = c.args.folder.now in
     let new = c.read.new.self in
     let bytes = c.in-Ok-read.bytes.items in
-    let call : F.allowed old (Reads (record_place c.args.path.now) max_record (Ok bytes)) new =
-    subst (λ (place : List ℕ). F.allowed old (Reads place max_record (Ok bytes)) new) c.in-Ok.ensures.place
-    (subst (λ r. F.allowed old (Reads c.in-Ok.place max_record (answered r)) new) c.in-Ok-read.is c.read.ensures.call) in
-    subst (λ (made : List ℕ). (length made ≤ max_record) × IsOnWay F.failures F.may_leave F.allowed (Reads (record_place c.args.path.now) max_record (Ok made)) old new)
+    let call : F.device.allowed old (Reads (record_place c.args.path.now) max_record (Ok bytes)) new =
+    subst (λ (place : List ℕ). F.device.allowed old (Reads place max_record (Ok bytes)) new) c.in-Ok.ensures.place
+    (subst (λ r. F.device.allowed old (Reads c.in-Ok.place max_record (answered r)) new) c.in-Ok-read.is c.read.ensures.call) in
+    subst (λ (made : List ℕ). (length made ≤ max_record) × IsOnWay F.device (Reads (record_place c.args.path.now) max_record (Ok made)) old new)
     (sym c.new.ensures) (c.in-Ok-read.ensures.within, on_way_here call)

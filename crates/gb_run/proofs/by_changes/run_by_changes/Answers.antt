@@ -7,9 +7,9 @@ use Rattle.gb_core.specs.Lists.{byte_order}
 use Rattle.std.specs.declared.vec.Vec.{Vec}
 use Rattle.std.specs.Result.{result_err}
 use Rattle.gb_folder.specs.Calls.{Call, changes_at}
-use Rattle.gb_folder.specs.Device.{Leads, device_of}
+use Rattle.gb_folder.specs.Device.{Leads}
 use Rattle.gb_folder.specs.Files.{Files, are_placed}
-use Rattle.gb_folder.proofs.Leading.{answered_all, requests_of, count_of, leads_as}
+use Rattle.gb_folder.proofs.Leading.{answered_all, requests_of, count_of}
 use Rattle.gb_report.specs.declared.fault.Fault.{Fault}
 use Rattle.gb_report.specs.declared.fault.Fault.TheVariants as faults
 use Rattle.gb_action.specs.Files.{Trees}
@@ -76,12 +76,12 @@ returns-in_err-parts-clause-err g c = λ faithful.
     let task = c.args.task.now in
     let p = err_from_is_err_and c.from_residual.result c.from_residual.ensures.1 in
     let IsFault : Fault → Type 0 = λ fault. (kinds : Kinds) → Agrees g.A.Actions.meanings c.args.table.now kinds → (old : Trees)
-    → GoesOn kinds task old c.args.files c.args.changes c.args.outputs (F.contents folder).files
-    → Fails (run_input kinds task c.args.files c.args.changes (rest_of task (F.contents folder).files)) (ByChanges (F.contents folder).files) (F.may_leave folder) (F.failures folder) fault c.args.lines.now (F.failures folder) (F.contents folder).files in
+    → GoesOn kinds task old c.args.files c.args.changes c.args.outputs (F.device.contents folder).files
+    → Fails (run_input kinds task c.args.files c.args.changes (rest_of task (F.device.contents folder).files)) (ByChanges (F.device.contents folder).files) (F.device.may_leave folder) (F.device.failures folder) fault c.args.lines.now (F.device.failures folder) (F.device.contents folder).files in
     at_err (λ r. IfErr r IsFault) c.from_residual.result p.0 faults.OutOfMemory p.1 p.2 (λ kinds agrees old goes_on.
-    subst (λ (lines : List Text). Fails (run_input kinds task c.args.files c.args.changes (rest_of task (F.contents folder).files)) (ByChanges (F.contents folder).files) (F.may_leave folder) (F.failures folder) faults.OutOfMemory lines (F.failures folder) (F.contents folder).files)
+    subst (λ (lines : List Text). Fails (run_input kinds task c.args.files c.args.changes (rest_of task (F.device.contents folder).files)) (ByChanges (F.device.contents folder).files) (F.device.may_leave folder) (F.device.failures folder) faults.OutOfMemory lines (F.device.failures folder) (F.device.contents folder).files)
     (sym c.requires.no_lines)
-    (fails_early kinds task c.args.files c.args.changes (F.contents folder).files (F.may_leave folder) (F.failures folder) faults.OutOfMemory (F.failures folder) refl))
+    (fails_early kinds task c.args.files c.args.changes (F.device.contents folder).files (F.device.may_leave folder) (F.device.failures folder) faults.OutOfMemory (F.device.failures folder) refl))
 
 pub returns-clause-named : goal.returns-clause-named
 returns-clause-named g c = subst (λ r. IfOk r (λ made. map (λ prints. prints.0) made.items ≡ map (λ (output : Output). output.name) c.args.task.now.outputs)) (sym c.ended.ensures)
@@ -113,32 +113,24 @@ returns-clause-calls g c =
           c.as_slice.ensures.value (c.in_ok-parts.ensures.work kinds agrees) led.3 c.requires.no_lines led.4),
     )
 
-pub returns-clause-back : goal.returns-clause-back
-returns-clause-back g c = λ faithful.
-    let F = g.F.Folder in
-    let device = device_of F.failures F.may_leave F.allowed F.faithful F.contents in
-    let led = c.do_parts-done.ensures in
-    known_before device c.args.folder.now c.do_parts-done.new.folder led.0
-    (leads_as F.device device g.met.F.Folder.said c.args.folder.now c.do_parts-done.new.folder led.0 led.2) faithful
-
 pub returns-clause-requests : goal.returns-clause-requests
 unfolding changes_at
 returns-clause-requests g c =
     let F = g.F.Folder in
-    let device = device_of F.failures F.may_leave F.allowed F.faithful F.contents in
+    let device = F.device in
     let led = c.do_parts-done.ensures in
     let at = is_output_of c.args.task.now in
     let places = subst (λ (parts : List Part). AllByRecursion (AreStepsAt at) parts) (sym c.as_slice.ensures.value) c.in_ok-parts.ensures.places in
     requests_of device (changes_at at) _ _ led.0 (permitted_parts (changes_at at) c.as_slice.result.now led.0 led.1 c.do_parts-done.result places led.3)
-    (leads_as F.device device g.met.F.Folder.said c.args.folder.now c.do_parts-done.new.folder led.0 led.2)
+    led.2
 
 pub returns-clause-blame : goal.returns-clause-blame
 returns-clause-blame g c = λ place is.
     let F = g.F.Folder in
-    let device = device_of F.failures F.may_leave F.allowed F.faithful F.contents in
+    let device = F.device in
     let led = c.do_parts-done.ensures in
     blamed_parts_for device c.as_slice.result.now led.0 led.1 c.do_parts-done.result _ _ led.3
-    (leads_as F.device device g.met.F.Folder.said c.args.folder.now c.do_parts-done.new.folder led.0 led.2) place
+    led.2 place
     (device_alone c.do_parts-done.result c.in_ok-parts.field-0.made place c.in_ok-parts.ensures.blames (sym c.ended.ensures ∙ is))
 
 pub returns-clause-blamed : goal.returns-clause-blamed
@@ -153,58 +145,58 @@ pub returns-clause-changes : goal.returns-clause-changes
 unfolding changes_at
 returns-clause-changes g c = λ faithful.
     let F = g.F.Folder in
-    let device = device_of F.failures F.may_leave F.allowed F.faithful F.contents in
+    let device = F.device in
     let led = c.do_parts-done.ensures in
     let at = is_output_of c.args.task.now in
     let places = subst (λ (parts : List Part). AllByRecursion (AreStepsAt at) parts) (sym c.as_slice.ensures.value) c.in_ok-parts.ensures.places in
-    changes_of at (F.may_leave c.args.folder.now) _ _ led.0 (permitted_parts (changes_at at) c.as_slice.result.now led.0 led.1 c.do_parts-done.result places led.3)
+    changes_of at (F.device.may_leave c.args.folder.now) _ _ led.0 (permitted_parts (changes_at at) c.as_slice.result.now led.0 led.1 c.do_parts-done.result places led.3)
     (answered_all device g.met.F.Folder.sound c.args.folder.now c.do_parts-done.new.folder led.0 faithful
-    (leads_as F.device device g.met.F.Folder.said c.args.folder.now c.do_parts-done.new.folder led.0 led.2))
+    led.2)
 
 pub returns-clause-ok : goal.returns-clause-ok
 returns-clause-ok g c = λ faithful.
     let F = g.F.Folder in
-    let device = device_of F.failures F.may_leave F.allowed F.faithful F.contents in
+    let device = F.device in
     let task = c.args.task.now in
     let old = c.args.folder.now in
     let new = c.do_parts-done.new.folder in
     let lines = c.do_parts-done.new.lines in
-    let start = (F.contents old).files in
+    let start = (F.device.contents old).files in
     let done = c.do_parts-done.result in
     let led = c.do_parts-done.ensures in
-    let leads = leads_as F.device device g.met.F.Folder.said old new led.0 led.2 in
+    let leads = led.2 in
     let made = c.in_ok-parts.field-0.made in
     on_ok _ c.ended.result (or_made done made) c.ended.ensures (for_all (λ kinds. Agrees g.A.Actions.meanings c.args.table.now kinds) (λ kinds. (before : Trees) → GoesOn kinds task before c.args.files c.args.changes c.args.outputs start
-    → EndsWell (run_input kinds task c.args.files c.args.changes (rest_of task start)) lines (F.contents new).files)
-    (or_made done made) (λ kinds agrees. for_old (λ before. GoesOn kinds task before c.args.files c.args.changes c.args.outputs start) (EndsWell (run_input kinds task c.args.files c.args.changes (rest_of task start)) lines (F.contents new).files) (or_made done made) (λ before goes_on.
-    ended_well (run_input kinds task c.args.files c.args.changes (rest_of task start)) (ByChanges start) (F.may_leave old) (F.failures old) (F.failures new) lines (F.contents new).files done made
-    (subst (λ (ls : List Text). Ends (run_input kinds task c.args.files c.args.changes (rest_of task start)) (ByChanges start) (F.may_leave old) (F.failures old) (F.failures new) done (result_err made) ls (F.contents new).files) (sym (parts_so c.args.lines.now led.1 lines c.requires.no_lines led.4))
+    → EndsWell (run_input kinds task c.args.files c.args.changes (rest_of task start)) lines (F.device.contents new).files)
+    (or_made done made) (λ kinds agrees. for_old (λ before. GoesOn kinds task before c.args.files c.args.changes c.args.outputs start) (EndsWell (run_input kinds task c.args.files c.args.changes (rest_of task start)) lines (F.device.contents new).files) (or_made done made) (λ before goes_on.
+    ended_well (run_input kinds task c.args.files c.args.changes (rest_of task start)) (ByChanges start) (F.device.may_leave old) (F.device.failures old) (F.device.failures new) lines (F.device.contents new).files done made
+    (subst (λ (ls : List Text). Ends (run_input kinds task c.args.files c.args.changes (rest_of task start)) (ByChanges start) (F.device.may_leave old) (F.device.failures old) (F.device.failures new) done (result_err made) ls (F.device.contents new).files) (sym (parts_so c.args.lines.now led.1 lines c.requires.no_lines led.4))
     (done_work_ends kinds task c.args.files c.args.changes c.args.outputs before start goes_on (all_fitting g.A.Actions.meanings kinds c.args.table.now task task.actions g.A.Actions.own_output agrees c.requires.ready)
-    (g.met.F.Folder.sound old) (g.met.F.Folder.placed old) (F.may_leave old) (F.failures old) (F.failures new) (count_of device old new led.0 leads) _ led.1 (F.contents old) (F.contents new) led.0 done (c.in_ok-parts.ensures.work kinds agrees) refl
+    (g.met.F.Folder.sound old) (g.met.F.Folder.placed old) (F.device.may_leave old) (F.device.failures old) (F.device.failures new) (count_of device old new led.0 leads) _ led.1 (F.device.contents old) (F.device.contents new) led.0 done (c.in_ok-parts.ensures.work kinds agrees) refl
     (subst (λ (ps : List Part). DoesParts (map part_held ps) led.0 led.1 done) c.as_slice.ensures.value led.3) (answered_all device g.met.F.Folder.sound old new led.0 faithful leads)
     (λ place is. blamed_parts_for device c.as_slice.result.now led.0 led.1 done _ _ led.3 leads place is))))))
 
 pub returns-clause-err : goal.returns-clause-err
 returns-clause-err g c = λ faithful.
     let F = g.F.Folder in
-    let device = device_of F.failures F.may_leave F.allowed F.faithful F.contents in
+    let device = F.device in
     let task = c.args.task.now in
     let old = c.args.folder.now in
     let new = c.do_parts-done.new.folder in
     let lines = c.do_parts-done.new.lines in
-    let start = (F.contents old).files in
+    let start = (F.device.contents old).files in
     let done = c.do_parts-done.result in
     let led = c.do_parts-done.ensures in
-    let leads = leads_as F.device device g.met.F.Folder.said old new led.0 led.2 in
+    let leads = led.2 in
     let made = c.in_ok-parts.field-0.made in
     if_err _ c.ended.result (or_made done made) c.ended.ensures (for_each (λ kinds. Agrees g.A.Actions.meanings c.args.table.now kinds)
     (λ kinds fault. (before : Trees) → GoesOn kinds task before c.args.files c.args.changes c.args.outputs start
-    → Fails (run_input kinds task c.args.files c.args.changes (rest_of task start)) (ByChanges start) (F.may_leave old) (F.failures old) fault lines (F.failures new) (F.contents new).files) (or_made done made) (λ kinds agrees.
+    → Fails (run_input kinds task c.args.files c.args.changes (rest_of task start)) (ByChanges start) (F.device.may_leave old) (F.device.failures old) fault lines (F.device.failures new) (F.device.contents new).files) (or_made done made) (λ kinds agrees.
     for_each_old (λ before. GoesOn kinds task before c.args.files c.args.changes c.args.outputs start)
-    (λ fault. Fails (run_input kinds task c.args.files c.args.changes (rest_of task start)) (ByChanges start) (F.may_leave old) (F.failures old) fault lines (F.failures new) (F.contents new).files) (or_made done made) (λ before goes_on.
-    ended_badly (run_input kinds task c.args.files c.args.changes (rest_of task start)) (ByChanges start) (F.may_leave old) (F.failures old) (F.failures new) lines (F.contents new).files done made
-    (subst (λ (ls : List Text). Ends (run_input kinds task c.args.files c.args.changes (rest_of task start)) (ByChanges start) (F.may_leave old) (F.failures old) (F.failures new) done (result_err made) ls (F.contents new).files) (sym (parts_so c.args.lines.now led.1 lines c.requires.no_lines led.4))
+    (λ fault. Fails (run_input kinds task c.args.files c.args.changes (rest_of task start)) (ByChanges start) (F.device.may_leave old) (F.device.failures old) fault lines (F.device.failures new) (F.device.contents new).files) (or_made done made) (λ before goes_on.
+    ended_badly (run_input kinds task c.args.files c.args.changes (rest_of task start)) (ByChanges start) (F.device.may_leave old) (F.device.failures old) (F.device.failures new) lines (F.device.contents new).files done made
+    (subst (λ (ls : List Text). Ends (run_input kinds task c.args.files c.args.changes (rest_of task start)) (ByChanges start) (F.device.may_leave old) (F.device.failures old) (F.device.failures new) done (result_err made) ls (F.device.contents new).files) (sym (parts_so c.args.lines.now led.1 lines c.requires.no_lines led.4))
     (done_work_ends kinds task c.args.files c.args.changes c.args.outputs before start goes_on (all_fitting g.A.Actions.meanings kinds c.args.table.now task task.actions g.A.Actions.own_output agrees c.requires.ready)
-    (g.met.F.Folder.sound old) (g.met.F.Folder.placed old) (F.may_leave old) (F.failures old) (F.failures new) (count_of device old new led.0 leads) _ led.1 (F.contents old) (F.contents new) led.0 done (c.in_ok-parts.ensures.work kinds agrees) refl
+    (g.met.F.Folder.sound old) (g.met.F.Folder.placed old) (F.device.may_leave old) (F.device.failures old) (F.device.failures new) (count_of device old new led.0 leads) _ led.1 (F.device.contents old) (F.device.contents new) led.0 done (c.in_ok-parts.ensures.work kinds agrees) refl
     (subst (λ (ps : List Part). DoesParts (map part_held ps) led.0 led.1 done) c.as_slice.ensures.value led.3) (answered_all device g.met.F.Folder.sound old new led.0 faithful leads)
     (λ place is. blamed_parts_for device c.as_slice.result.now led.0 led.1 done _ _ led.3 leads place is))))))

@@ -25,36 +25,36 @@ returns-clause-blamed g c = λ place is.
 
 pub returns-clause-changes : goal.returns-clause-changes
 returns-clause-changes g c = λ faithful.
-    let listing = c.remove_all.ensures.back faithful in
+    let listing = c.remove_all.ensures.requests.back faithful in
     let listed : list_all (is_at_output c.args.task.now.outputs) c.as_slice-2.result.now ≡ true =
     ap (list_all (is_at_output c.args.task.now.outputs)) c.as_slice-2.ensures.value
     ∙ ap (λ (outputs : List Output). list_all (is_at_output outputs) c.in_ok-places.places.items) (sym c.as_slice.ensures) ∙ c.in_ok-places.ensures.under in
-    changes_chain (is_output_of c.args.task.now) _ _ _ (changes_none (is_output_of c.args.task.now) _ _ (c.listed_outputs.ensures.same listing))
+    changes_chain (is_output_of c.args.task.now) _ _ _ (changes_none (is_output_of c.args.task.now) _ _ (c.listed_outputs.ensures.reads.same listing))
     (c.remove_all.ensures.changes faithful (is_output_of c.args.task.now) (each_of_all (is_output_of c.args.task.now) c.as_slice-2.result.now listed))
 
 pub returns-clause-ok : goal.returns-clause-ok
 returns-clause-ok g c = λ faithful.
-    let listing = c.remove_all.ensures.back faithful in
+    let listing = c.remove_all.ensures.requests.back faithful in
     let F = g.F.Folder in
     let task = c.args.task.now in
-    let old = F.contents c.args.folder.now in
+    let old = F.device.contents c.args.folder.now in
     let listed : c.as_slice-2.result.now ≡ places_at task.outputs old.files =
     c.as_slice-2.ensures.value ∙ c.in_ok-places.ensures.listed listing ∙ ap (λ (outputs : List Output). places_at outputs old.files) c.as_slice.ensures in
     on_ok_weaker c.remove_all.result (λ is.
     ap (λ (folder : Contents). folder.files) is
-    ∙ ap (λ (places : List (List ℕ)). fold without (F.contents c.listed_outputs.new.folder).files places) listed
-    ∙ ap (λ (folder : Contents). fold without folder.files (places_at task.outputs old.files)) (c.listed_outputs.ensures.same listing)
+    ∙ ap (λ (places : List (List ℕ)). fold without (F.device.contents c.listed_outputs.new.folder).files places) listed
+    ∙ ap (λ (folder : Contents). fold without folder.files (places_at task.outputs old.files)) (c.listed_outputs.ensures.reads.same listing)
     ∙ emptied (λ (output : Output). output.place) task.outputs old.files (g.met.F.Folder.sound c.args.folder.now)) (c.remove_all.ensures.ok faithful)
 
 pub returns-in_err-places-clause-requests : goal.returns-in_err-places-clause-requests
-returns-in_err-places-clause-requests g c = requests_reading c.listed_outputs.ensures.requests
+returns-in_err-places-clause-requests g c = requests_reading c.listed_outputs.ensures.reads.requests
 
 pub returns-clause-requests : goal.returns-clause-requests
 returns-clause-requests g c =
     let listed : list_all (is_at_output c.args.task.now.outputs) c.as_slice-2.result.now ≡ true =
     ap (list_all (is_at_output c.args.task.now.outputs)) c.as_slice-2.ensures.value
     ∙ ap (λ (outputs : List Output). list_all (is_at_output outputs) c.in_ok-places.places.items) (sym c.as_slice.ensures) ∙ c.in_ok-places.ensures.under in
-    requests_then (requests_reading c.listed_outputs.ensures.requests)
+    requests_then (requests_reading c.listed_outputs.ensures.reads.requests)
     (takes_where (is_among c.as_slice-2.result.now) (is_output_of c.args.task.now)
     (λ place is. among_all (is_output_of c.args.task.now) c.as_slice-2.result.now place listed is) c.remove_all.ensures.requests)
 

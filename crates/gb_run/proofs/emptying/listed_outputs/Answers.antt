@@ -4,7 +4,8 @@ use Rattle.std.proofs.lemmas.List.{take_all}
 use Rattle.std.specs.Global.{Global}
 use Rattle.std.specs.declared.vec.Vec.{Vec}
 use Rattle.gb_folder.specs.Calls.{Call}
-use Rattle.gb_folder.specs.Device.{Device, Leads}
+use Rattle.gb_folder.specs.Calls.{Device}
+use Rattle.gb_folder.specs.Device.{Leads}
 use Rattle.gb_folder.specs.Each.{Each}
 use Rattle.gb_folder.proofs.EachOf.{EachLed, each_more, each_short}
 use Rattle.std.proofs.lemmas.Bool.{and_from, and_parts}
@@ -42,14 +43,14 @@ special_by output outputs folder is same =
 
 pub returns-in_err-listed-clause-special : goal.returns-in_err-listed-clause-special
 returns-in_err-listed-clause-special g c = λ faithful.
-    let before = c.listed_at.ensures.back faithful in
+    let before = c.listed_at.ensures.reads.requests.back faithful in
     let p = err_from_is_err_and c.from_residual.result c.from_residual.ensures.1 in
-    let old = g.F.Folder.contents c.args.folder.now in
+    let old = g.F.Folder.device.contents c.args.folder.now in
     let outputs = c.args.outputs.now in
-    let IsFault : Fault → Type 0 = λ fault. IsOfMachine (g.F.Folder.failures c.args.folder.now) (g.F.Folder.failures c.listed_at.new.folder) fault
+    let IsFault : Fault → Type 0 = λ fault. IsOfMachine (g.F.Folder.device.failures c.args.folder.now) (g.F.Folder.device.failures c.listed_at.new.folder) fault
     ⊎ (first_of (special_faults outputs old) ≡ Some fault) in
     at_err (λ r. IfErr r IsFault) c.from_residual.result p.0 c.in_err-listed.field-0.0 p.1 p.2 (elim (c.in_err-listed.ensures.special faithful) [
-      | inl machine ↦ inl (machine_before _ _ _ _ c.loop-output.invariant.requests.count c.listed_at.ensures.requests.count machine)
+      | inl machine ↦ inl (machine_before _ _ _ _ c.loop-output.invariant.requests.count c.listed_at.ensures.reads.requests.count machine)
       | inr special ↦ inr (
           ap first_of (sym (c.loop-output.invariant.special before)
           ∙ step_here (λ os. special_faults os old) outputs c.loop-output.output-index c.output-item.result c.loop-output-test.true c.output-item.is
@@ -69,7 +70,7 @@ pub loop-output-preserved : goal.loop-output-preserved
 loop-output-preserved g c =
     let F = g.F.Folder in
     let outputs = c.args.outputs.now in
-    let old = F.contents c.args.folder.now in
+    let old = F.device.contents c.args.folder.now in
     let i = c.loop-output.output-index in
     let output = c.output-item.result in
     let so_far = c.loop-output.invariant in
@@ -81,24 +82,24 @@ loop-output-preserved g c =
           subst (λ (places : List (List ℕ)). EachLed Listing F.device (take (i + 1) outputs) c.args.folder.now places (Ok tt) c.listed_at.new.folder) (sym items)
           (each_more Listing F.device outputs i output c.loop-output-test.true c.output-item.is _ _ _ c.loop-output.places.items c.in_ok-listed.listed.items so_far.led
           (listing_more F.device output _ _ c.in_ok-listed.listed c.in_ok-listed.ensures.call));
-      requests = requests_then so_far.requests c.listed_at.ensures.requests;
+      requests = requests_then so_far.requests c.listed_at.ensures.reads.requests;
       under =
           ap (list_all (is_at_output outputs)) items ∙ list_all-append (is_at_output outputs) c.loop-output.places.items c.in_ok-listed.listed.items
           ∙ and_from _ _ so_far.under under;
-      back = λ faithful. so_far.back (c.listed_at.ensures.back faithful);
-      same = λ faithful. c.listed_at.ensures.same faithful ∙ so_far.same (c.listed_at.ensures.back faithful);
+      back = λ faithful. so_far.back (c.listed_at.ensures.reads.requests.back faithful);
+      same = λ faithful. c.listed_at.ensures.reads.same faithful ∙ so_far.same (c.listed_at.ensures.reads.requests.back faithful);
       listed = λ faithful.
-          let here : c.in_ok-listed.listed.items ≡ places_under old.files output.place = c.in_ok-listed.ensures.listed faithful ∙ ap (λ (folder : Contents). places_under folder.files output.place) (so_far.same (c.listed_at.ensures.back faithful)) in
+          let here : c.in_ok-listed.listed.items ≡ places_under old.files output.place = c.in_ok-listed.ensures.listed faithful ∙ ap (λ (folder : Contents). places_under folder.files output.place) (so_far.same (c.listed_at.ensures.reads.requests.back faithful)) in
           let rest = places_at (drop (i + 1) outputs) old.files in
           ap (λ (found : List (List ℕ)). found ++ rest) (items ∙ ap (λ (more : List (List ℕ)). c.loop-output.places.items ++ more) here)
           ∙ append_assoc c.loop-output.places.items (places_under old.files output.place) rest
           ∙ ap (λ (more : List (List ℕ)). c.loop-output.places.items ++ more) (sym (step_here (λ os. places_at os old.files) outputs i output c.loop-output-test.true c.output-item.is))
-          ∙ so_far.listed (c.listed_at.ensures.back faithful);
+          ∙ so_far.listed (c.listed_at.ensures.reads.requests.back faithful);
       special = λ faithful.
-          let none : is_special_under old output.place ≡ false = ap (λ folder. is_special_under folder output.place) (sym (so_far.same (c.listed_at.ensures.back faithful))) ∙ c.in_ok-listed.ensures.none_special faithful in
+          let none : is_special_under old output.place ≡ false = ap (λ folder. is_special_under folder output.place) (sym (so_far.same (c.listed_at.ensures.reads.requests.back faithful))) ∙ c.in_ok-listed.ensures.none_special faithful in
           sym (special_by output (drop (i + 1) outputs) old false none)
           ∙ sym (step_here (λ os. special_faults os old) outputs i output c.loop-output-test.true c.output-item.is)
-          ∙ so_far.special (c.listed_at.ensures.back faithful);
+          ∙ so_far.special (c.listed_at.ensures.reads.requests.back faithful);
     }
 
 abbrev ListedBy : {F : Type 0} → Device F → List Output → F → Result (Vec (List ℕ) Global) Fault → F → Type 0

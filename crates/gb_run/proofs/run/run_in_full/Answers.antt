@@ -5,9 +5,9 @@ use Rattle.std.specs.List.{AllByRecursion}
 use Rattle.std.specs.declared.vec.Vec.{Vec}
 use Rattle.std.specs.Result.{result_err}
 use Rattle.gb_folder.specs.Calls.{Call, changes_at}
-use Rattle.gb_folder.specs.Device.{Leads, device_of}
+use Rattle.gb_folder.specs.Device.{Leads}
 use Rattle.gb_folder.specs.Files.{Files}
-use Rattle.gb_folder.proofs.Leading.{answered_all, requests_of, count_of, leads_as}
+use Rattle.gb_folder.proofs.Leading.{answered_all, requests_of, count_of}
 use Rattle.gb_report.specs.declared.fault.Fault.{Fault}
 use Rattle.gb_report.specs.declared.fault.Fault.TheVariants as faults
 use Rattle.gb_plan.specs.Task.{Text, is_output_of}
@@ -59,11 +59,11 @@ returns-in_err-parts-clause-err g c = λ faithful.
     let folder = c.args.folder.now in
     let p = err_from_is_err_and c.from_residual.result c.from_residual.ensures.1 in
     let IsFault : Fault → Type 0 = λ fault. (kinds : Kinds) → Agrees g.A.Actions.meanings c.args.table.now kinds
-    → Fails (run_input kinds c.args.task.now c.args.files c.args.changes (F.contents folder).files) InFull (F.may_leave folder) (F.failures folder) fault c.args.lines.now (F.failures folder) (F.contents folder).files in
+    → Fails (run_input kinds c.args.task.now c.args.files c.args.changes (F.device.contents folder).files) InFull (F.device.may_leave folder) (F.device.failures folder) fault c.args.lines.now (F.device.failures folder) (F.device.contents folder).files in
     at_err (λ r. IfErr r IsFault) c.from_residual.result p.0 faults.OutOfMemory p.1 p.2 (λ kinds agrees.
-    let input = run_input kinds c.args.task.now c.args.files c.args.changes (F.contents folder).files in
-    subst (λ (lines : List Text). Fails input InFull (F.may_leave folder) (F.failures folder) faults.OutOfMemory lines (F.failures folder) (F.contents folder).files) (sym c.requires.no_lines)
-    (fails_early input (F.may_leave folder) (F.failures folder) faults.OutOfMemory (F.failures folder) refl))
+    let input = run_input kinds c.args.task.now c.args.files c.args.changes (F.device.contents folder).files in
+    subst (λ (lines : List Text). Fails input InFull (F.device.may_leave folder) (F.device.failures folder) faults.OutOfMemory lines (F.device.failures folder) (F.device.contents folder).files) (sym c.requires.no_lines)
+    (fails_early input (F.device.may_leave folder) (F.device.failures folder) faults.OutOfMemory (F.device.failures folder) refl))
 
 pub returns-clause-named : goal.returns-clause-named
 returns-clause-named g c = subst (λ r. IfOk r (λ made. map (λ prints. prints.0) made.items ≡ map (λ (output : Output). output.name) c.args.task.now.outputs)) (sym c.ended.ensures)
@@ -94,32 +94,24 @@ returns-clause-calls g c =
           c.as_slice.ensures.value (c.in_ok-parts.ensures.work kinds agrees) led.3 c.requires.no_lines led.4),
     )
 
-pub returns-clause-back : goal.returns-clause-back
-returns-clause-back g c = λ faithful.
-    let F = g.F.Folder in
-    let device = device_of F.failures F.may_leave F.allowed F.faithful F.contents in
-    let led = c.do_parts-done.ensures in
-    known_before device c.args.folder.now c.do_parts-done.new.folder led.0
-    (leads_as F.device device g.met.F.Folder.said c.args.folder.now c.do_parts-done.new.folder led.0 led.2) faithful
-
 pub returns-clause-requests : goal.returns-clause-requests
 unfolding changes_at
 returns-clause-requests g c =
     let F = g.F.Folder in
-    let device = device_of F.failures F.may_leave F.allowed F.faithful F.contents in
+    let device = F.device in
     let led = c.do_parts-done.ensures in
     let at = is_output_of c.args.task.now in
     let places = subst (λ (parts : List Part). AllByRecursion (AreStepsAt at) parts) (sym c.as_slice.ensures.value) c.in_ok-parts.ensures.places in
     requests_of device (changes_at at) _ _ led.0 (permitted_parts (changes_at at) c.as_slice.result.now led.0 led.1 c.do_parts-done.result places led.3)
-    (leads_as F.device device g.met.F.Folder.said c.args.folder.now c.do_parts-done.new.folder led.0 led.2)
+    led.2
 
 pub returns-clause-blame : goal.returns-clause-blame
 returns-clause-blame g c = λ place is.
     let F = g.F.Folder in
-    let device = device_of F.failures F.may_leave F.allowed F.faithful F.contents in
+    let device = F.device in
     let led = c.do_parts-done.ensures in
     blamed_parts_for device c.as_slice.result.now led.0 led.1 c.do_parts-done.result _ _ led.3
-    (leads_as F.device device g.met.F.Folder.said c.args.folder.now c.do_parts-done.new.folder led.0 led.2) place
+    led.2 place
     (device_alone c.do_parts-done.result c.in_ok-parts.field-0.made place c.in_ok-parts.ensures.blames (sym c.ended.ensures ∙ is))
 
 pub returns-clause-blamed : goal.returns-clause-blamed
@@ -134,46 +126,46 @@ pub returns-clause-changes : goal.returns-clause-changes
 unfolding changes_at
 returns-clause-changes g c = λ faithful.
     let F = g.F.Folder in
-    let device = device_of F.failures F.may_leave F.allowed F.faithful F.contents in
+    let device = F.device in
     let led = c.do_parts-done.ensures in
     let at = is_output_of c.args.task.now in
     let places = subst (λ (parts : List Part). AllByRecursion (AreStepsAt at) parts) (sym c.as_slice.ensures.value) c.in_ok-parts.ensures.places in
-    changes_of at (F.may_leave c.args.folder.now) _ _ led.0 (permitted_parts (changes_at at) c.as_slice.result.now led.0 led.1 c.do_parts-done.result places led.3)
+    changes_of at (F.device.may_leave c.args.folder.now) _ _ led.0 (permitted_parts (changes_at at) c.as_slice.result.now led.0 led.1 c.do_parts-done.result places led.3)
     (answered_all device g.met.F.Folder.sound c.args.folder.now c.do_parts-done.new.folder led.0 faithful
-    (leads_as F.device device g.met.F.Folder.said c.args.folder.now c.do_parts-done.new.folder led.0 led.2))
+    led.2)
 
 pub returns-clause-ok : goal.returns-clause-ok
 returns-clause-ok g c = λ faithful.
     let F = g.F.Folder in
-    let device = device_of F.failures F.may_leave F.allowed F.faithful F.contents in
+    let device = F.device in
     let old = c.args.folder.now in
     let new = c.do_parts-done.new.folder in
     let lines = c.do_parts-done.new.lines in
     let done = c.do_parts-done.result in
     let led = c.do_parts-done.ensures in
-    let leads = leads_as F.device device g.met.F.Folder.said old new led.0 led.2 in
+    let leads = led.2 in
     let made = c.in_ok-parts.field-0.made in
-    on_ok _ c.ended.result (or_made done made) c.ended.ensures (for_all (λ kinds. Agrees g.A.Actions.meanings c.args.table.now kinds) (λ kinds. EndsWell (run_input kinds c.args.task.now c.args.files c.args.changes (F.contents old).files) lines (F.contents new).files)
+    on_ok _ c.ended.result (or_made done made) c.ended.ensures (for_all (λ kinds. Agrees g.A.Actions.meanings c.args.table.now kinds) (λ kinds. EndsWell (run_input kinds c.args.task.now c.args.files c.args.changes (F.device.contents old).files) lines (F.device.contents new).files)
     (or_made done made) (λ kinds agrees.
-    ended_well (run_input kinds c.args.task.now c.args.files c.args.changes (F.contents old).files) InFull (F.may_leave old) (F.failures old) (F.failures new) lines (F.contents new).files done made
-    (ran kinds c.args.task.now c.args.files c.args.changes (F.may_leave old) (F.failures old) (F.failures new) (F.contents old) (F.contents new) led.0 c.in_ok-parts.field-0.parts.items c.as_slice.result.now (result_err made)
+    ended_well (run_input kinds c.args.task.now c.args.files c.args.changes (F.device.contents old).files) InFull (F.device.may_leave old) (F.device.failures old) (F.device.failures new) lines (F.device.contents new).files done made
+    (ran kinds c.args.task.now c.args.files c.args.changes (F.device.may_leave old) (F.device.failures old) (F.device.failures new) (F.device.contents old) (F.device.contents new) led.0 c.in_ok-parts.field-0.parts.items c.as_slice.result.now (result_err made)
     c.args.lines.now led.1 lines done c.as_slice.ensures.value (c.in_ok-parts.ensures.work kinds agrees) (g.met.F.Folder.sound old).in_order (count_of device old new led.0 leads)
     (λ place is. blamed_parts_for device c.as_slice.result.now led.0 led.1 done _ _ led.3 leads place is) led.3 (answered_all device g.met.F.Folder.sound old new led.0 faithful leads) c.requires.no_lines led.4)))
 
 pub returns-clause-err : goal.returns-clause-err
 returns-clause-err g c = λ faithful.
     let F = g.F.Folder in
-    let device = device_of F.failures F.may_leave F.allowed F.faithful F.contents in
+    let device = F.device in
     let old = c.args.folder.now in
     let new = c.do_parts-done.new.folder in
     let lines = c.do_parts-done.new.lines in
     let done = c.do_parts-done.result in
     let led = c.do_parts-done.ensures in
-    let leads = leads_as F.device device g.met.F.Folder.said old new led.0 led.2 in
+    let leads = led.2 in
     let made = c.in_ok-parts.field-0.made in
     if_err _ c.ended.result (or_made done made) c.ended.ensures (for_each (λ kinds. Agrees g.A.Actions.meanings c.args.table.now kinds)
-    (λ kinds fault. Fails (run_input kinds c.args.task.now c.args.files c.args.changes (F.contents old).files) InFull (F.may_leave old) (F.failures old) fault lines (F.failures new) (F.contents new).files) (or_made done made) (λ kinds agrees.
-    ended_badly (run_input kinds c.args.task.now c.args.files c.args.changes (F.contents old).files) InFull (F.may_leave old) (F.failures old) (F.failures new) lines (F.contents new).files done made
-    (ran kinds c.args.task.now c.args.files c.args.changes (F.may_leave old) (F.failures old) (F.failures new) (F.contents old) (F.contents new) led.0 c.in_ok-parts.field-0.parts.items c.as_slice.result.now (result_err made)
+    (λ kinds fault. Fails (run_input kinds c.args.task.now c.args.files c.args.changes (F.device.contents old).files) InFull (F.device.may_leave old) (F.device.failures old) fault lines (F.device.failures new) (F.device.contents new).files) (or_made done made) (λ kinds agrees.
+    ended_badly (run_input kinds c.args.task.now c.args.files c.args.changes (F.device.contents old).files) InFull (F.device.may_leave old) (F.device.failures old) (F.device.failures new) lines (F.device.contents new).files done made
+    (ran kinds c.args.task.now c.args.files c.args.changes (F.device.may_leave old) (F.device.failures old) (F.device.failures new) (F.device.contents old) (F.device.contents new) led.0 c.in_ok-parts.field-0.parts.items c.as_slice.result.now (result_err made)
     c.args.lines.now led.1 lines done c.as_slice.ensures.value (c.in_ok-parts.ensures.work kinds agrees) (g.met.F.Folder.sound old).in_order (count_of device old new led.0 leads)
     (λ place is. blamed_parts_for device c.as_slice.result.now led.0 led.1 done _ _ led.3 leads place is) led.3 (answered_all device g.met.F.Folder.sound old new led.0 faithful leads) c.requires.no_lines led.4)))

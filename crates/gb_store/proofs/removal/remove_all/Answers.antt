@@ -22,9 +22,9 @@ loop-place-preserved g c =
           (removal_led _ _ _ _ _ (subst (λ (r : Ended Fault). WasRemoved g.F.Folder.device c.place-item.result c.loop-place.folder r c.remove_at.new.folder) c.in_ok-remove_at.was c.remove_at.ensures.call));
       requests = requests_then c.loop-place.invariant.requests
           (taken_among c.args.places.now c.loop-place.place-index c.place-item.result c.loop-place-test.true c.place-item.is c.remove_at.ensures.requests);
-      back = λ faithful. c.loop-place.invariant.back (c.remove_at.ensures.back faithful);
+      back = λ faithful. c.loop-place.invariant.back (c.remove_at.ensures.requests.back faithful);
       removed = λ faithful.
-          without_more _ _ _ c.args.places.now c.loop-place.place-index c.place-item.result c.loop-place-test.true c.place-item.is (c.loop-place.invariant.removed (c.remove_at.ensures.back faithful)) (c.in_ok-remove_at.ensures.ok faithful);
+          without_more _ _ _ c.args.places.now c.loop-place.place-index c.place-item.result c.loop-place-test.true c.place-item.is (c.loop-place.invariant.removed (c.remove_at.ensures.requests.back faithful)) (c.in_ok-remove_at.ensures.ok faithful);
     }
 
 pub returns-in_err-remove_at-clause-requests : goal.returns-in_err-remove_at-clause-requests
@@ -42,17 +42,17 @@ pub returns-in_err-remove_at-clause-cut : goal.returns-in_err-remove_at-clause-c
 returns-in_err-remove_at-clause-cut g c = λ faithful.
     let p = err_from_is_err_and c.from_residual.result c.from_residual.ensures.1 in
     let F = g.F.Folder in
-    let IsFault : Fault → Type 0 = λ fault. IsCutShort (F.may_leave c.args.folder.now) c.args.places.now (F.contents c.args.folder.now) fault (F.contents c.remove_at.new.folder) in
+    let IsFault : Fault → Type 0 = λ fault. IsCutShort (F.device.may_leave c.args.folder.now) c.args.places.now (F.device.contents c.args.folder.now) fault (F.device.contents c.remove_at.new.folder) in
     at_err (λ r. IfErr r IsFault) c.from_residual.result p.0 c.in_err-remove_at.field-0.0 p.1 p.2
-    (cut_at _ _ _ _ _ c.args.places.now c.loop-place.place-index c.place-item.result _ c.loop-place-test.true c.place-item.is c.loop-place.invariant.requests.tearing (c.loop-place.invariant.removed (c.remove_at.ensures.back faithful)) (c.in_err-remove_at.ensures.hindered faithful))
+    (cut_at _ _ _ _ _ c.args.places.now c.loop-place.place-index c.place-item.result _ c.loop-place-test.true c.place-item.is c.loop-place.invariant.requests.tearing (c.loop-place.invariant.removed (c.remove_at.ensures.requests.back faithful)) (c.in_err-remove_at.ensures.hindered faithful))
 
 pub returns-in_err-remove_at-clause-changes : goal.returns-in_err-remove_at-clause-changes
 returns-in_err-remove_at-clause-changes g c = λ faithful test all.
     let here = all_at (λ place. test place ≡ true) c.args.places.now c.loop-place.place-index c.place-item.result c.loop-place-test.true c.place-item.is all in
-    changes_chain test _ _ _ (changes_so_far test c.args.places.now c.loop-place.place-index _ _ all (c.loop-place.invariant.removed (c.remove_at.ensures.back faithful))) (c.remove_at.ensures.changes faithful test here)
+    changes_chain test _ _ _ (changes_so_far test c.args.places.now c.loop-place.place-index _ _ all (c.loop-place.invariant.removed (c.remove_at.ensures.requests.back faithful))) (c.remove_at.ensures.changes faithful test here)
 
 pub returns-clause-ok : goal.returns-clause-ok
-returns-clause-ok g c = λ faithful. c.loop-place.invariant.removed faithful ∙ ap (without_all (g.F.Folder.contents c.args.folder.now)) (take_all c.loop-place.place-index c.args.places.now c.loop-place-test.false)
+returns-clause-ok g c = λ faithful. c.loop-place.invariant.removed faithful ∙ ap (without_all (g.F.Folder.device.contents c.args.folder.now)) (take_all c.loop-place.place-index c.args.places.now c.loop-place-test.false)
 
 pub returns-clause-changes : goal.returns-clause-changes
 returns-clause-changes g c = λ faithful test all. changes_so_far test c.args.places.now c.loop-place.place-index _ _ all (c.loop-place.invariant.removed faithful)

@@ -7,10 +7,10 @@ use Rattle.gb_store.proofs.removal.remove_all.Given as goal
 
 abbrev pub invariant-loop-place : goal.invariant-loop-place
 invariant-loop-place g l =
-    let contents = g.F.Folder.contents in
+    let contents = g.F.Folder.device.contents in
     record {
       led : EachLed Removal g.F.Folder.device (take l.place-index l.places) l.fn.folder [] (Ok tt) l.folder;
-      requests : Requests g.F.Folder.failures g.F.Folder.may_leave g.F.Folder.allowed (takes_at (is_among l.places)) l.fn.folder l.folder;
-      back : g.F.Folder.faithful l.folder → g.F.Folder.faithful l.fn.folder;
-      removed : g.F.Folder.faithful l.folder → contents l.folder ≡ without_all (contents l.fn.folder) (take l.place-index l.places);
+      requests : Requests g.F.Folder.device (takes_at (is_among l.places)) l.fn.folder l.folder;
+      back : g.F.Folder.device.faithful l.folder → g.F.Folder.device.faithful l.fn.folder;
+      removed : g.F.Folder.device.faithful l.folder → contents l.folder ≡ without_all (contents l.fn.folder) (take l.place-index l.places);
     }

@@ -22,16 +22,16 @@ returns-in-Ok-clause-call g c =
     let place = c.args.place.now in
     let said = c.remove.ensures in
     let called : IsCalled F.device c.args.folder.now (Removes place c.remove.result) c.remove.new.self =
-    g.met.F.Folder.called c.args.folder.now (Removes place c.remove.result) c.remove.new.self (record {
+    record {
       allowed = said.call;
       well = removes_well c.remove.result said.not_large said.not_named;
       count = said.requests.count;
       tearing = said.requests.tearing;
-      risen = λ is. said.device (change_failed c.remove.result is);
-      back = said.back;
-      exact = λ faithful. removed (F.may_leave c.args.folder.now) (F.contents c.args.folder.now) place c.remove.result (F.contents c.remove.new.self)
+      risen = λ is. said.risen (change_failed c.remove.result is);
+      back = said.requests.back;
+      exact = λ faithful. removed (F.device.may_leave c.args.folder.now) (F.device.contents c.args.folder.now) place c.remove.result (F.device.contents c.remove.new.self)
           said.not_large said.not_named (said.removed faithful) (said.existed faithful) (said.missing faithful) (said.missing_free faithful) (said.blocked faithful) (said.same faithful) (said.torn faithful);
-    }) in
+    } in
     inr (c.remove.result, called, ap (removal_ending place) (sym c.in-Ok.is))
 
 pub returns-in-Ok-clause-changes : goal.returns-in-Ok-clause-changes
@@ -53,8 +53,8 @@ other_fault folders.BadFileName a b d e f h = e refl
 pub returns-in-Err : goal.returns-in-Err
 returns-in-Err g c =
     let F = g.F.Folder in
-    let old = F.contents c.args.folder.now in
-    let new = F.contents c.remove.new.self in
+    let old = F.device.contents c.args.folder.now in
+    let new = F.device.contents c.remove.new.self in
     let place = c.args.place.now in
     let fault = c.in-Err.fault in
     let sound = g.met.F.Folder.sound c.args.folder.now in
@@ -62,27 +62,26 @@ returns-in-Err g c =
     let as_reported : reported_at c.in_ok-at.at fault ≡ reported_at place fault = ap (λ p. reported_at p fault) c.in_ok-at.ensures in
     let said = c.remove.ensures in
     let called : IsCalled F.device c.args.folder.now (Removes place c.remove.result) c.remove.new.self =
-    g.met.F.Folder.called c.args.folder.now (Removes place c.remove.result) c.remove.new.self (record {
+    record {
       allowed = said.call;
       well = removes_well c.remove.result said.not_large said.not_named;
       count = said.requests.count;
       tearing = said.requests.tearing;
-      risen = λ is. said.device (change_failed c.remove.result is);
-      back = said.back;
-      exact = λ faithful. removed (F.may_leave c.args.folder.now) (F.contents c.args.folder.now) place c.remove.result (F.contents c.remove.new.self)
+      risen = λ is. said.risen (change_failed c.remove.result is);
+      back = said.requests.back;
+      exact = λ faithful. removed (F.device.may_leave c.args.folder.now) (F.device.contents c.args.folder.now) place c.remove.result (F.device.contents c.remove.new.self)
           said.not_large said.not_named (said.removed faithful) (said.existed faithful) (said.missing faithful) (said.missing_free faithful) (said.blocked faithful) (said.same faithful) (said.torn faithful);
-    }) in
+    } in
     record {
       call = inr (
         c.remove.result,
         called,
         c.unless_absent.ensures ∙ ap (λ p. unless_absent p fault) c.in_ok-at.ensures ∙ ap (removal_ending place) (sym c.in-Err.is),
       );
-      back = allowed.back;
       requests = allowed.requests;
       blame = λ at is.
           let reported = IfErr-at_err _ is (at_place c.in_ok-at.at fault c.unless_absent.result c.unless_absent.ensures) in
-          allowed.device (c.in-Err.is ∙ ap Err (blames_device place fault _ (inr (reported.2 ∙ as_reported)) at refl));
+          allowed.risen (c.in-Err.is ∙ ap Err (blames_device place fault _ (inr (reported.2 ∙ as_reported)) at refl));
       blamed = λ at is.
           let reported = IfErr-at_err _ is (at_place c.in_ok-at.at fault c.unless_absent.result c.unless_absent.ensures) in
           (bytes_decides at place).1 (sym (reported_place place at fault (sym (reported.2 ∙ as_reported))));
@@ -92,11 +91,11 @@ returns-in-Err g c =
             | inr blocked ↦ none_left old new place sound (c.in-Err.ensures.same faithful (λ e. cc)) (blocked_none old.files place sound (allowed.blocked faithful (c.in-Err.is ∙ ap Err blocked)))
           ]) (at_ok c.in_ok-at.at fault c.unless_absent.result c.unless_absent.ensures);
       err = λ faithful. IfErr-weaker c.unless_absent.result _ _ (λ reported h.
-          of_machine _ _ place fault reported (inr (h.2 ∙ as_reported)) (λ d. allowed.device (c.in-Err.is ∙ ap Err d))
+          of_machine _ _ place fault reported (inr (h.2 ∙ as_reported)) (λ d. allowed.risen (c.in-Err.is ∙ ap Err d))
           (λ a b. other_fault fault h.0 h.1 (λ e. allowed.not_large (c.in-Err.is ∙ ap Err e)) (λ e. allowed.not_named (c.in-Err.is ∙ ap Err e)) a b)) (at_place c.in_ok-at.at fault c.unless_absent.result c.unless_absent.ensures);
       hindered = λ faithful. IfErr-weaker c.unless_absent.result _ _ (λ reported h.
-          subst (λ t. IsHindered (F.may_leave c.args.folder.now) place None old t new) (sym (h.2 ∙ as_reported))
-          (hindered_by (F.may_leave c.args.folder.now) place None old new fault h.0 h.1 (λ e. allowed.not_large (c.in-Err.is ∙ ap Err e)) (λ e. allowed.not_named (c.in-Err.is ∙ ap Err e))
+          subst (λ t. IsHindered (F.device.may_leave c.args.folder.now) place None old t new) (sym (h.2 ∙ as_reported))
+          (hindered_by (F.device.may_leave c.args.folder.now) place None old new fault h.0 h.1 (λ e. allowed.not_large (c.in-Err.is ∙ ap Err e)) (λ e. allowed.not_named (c.in-Err.is ∙ ap Err e))
           (c.in-Err.ensures.same faithful) (λ d. allowed.torn faithful (c.in-Err.is ∙ ap Err d)))) (at_place c.in_ok-at.at fault c.unless_absent.result c.unless_absent.ensures);
       changes = λ faithful test holds.
           elim (is_device fault) [

@@ -16,8 +16,8 @@ pub returns-clause-of_task : goal.returns-clause-of_task
 returns-clause-of_task g c =
     let F = g.F.Folder in
     let found = c.prepare_by_seen-prepared in
-    subst (λ (s : Settled). IsOfTask c.args.task.now (F.failures c.args.folder.now) (F.failures found.new.folder) s) (sym c.settled_by.ensures.settled)
-    (of_task c.args.task.now c.args.path c.requires.path (F.failures c.args.folder.now) (F.failures found.new.folder) c.args.has_executed_need found.result found.ensures.may_be found.ensures.read found.ensures.blame
+    subst (λ (s : Settled). IsOfTask c.args.task.now (F.device.failures c.args.folder.now) (F.device.failures found.new.folder) s) (sym c.settled_by.ensures.settled)
+    (of_task c.args.task.now c.args.path c.requires.path (F.device.failures c.args.folder.now) (F.device.failures found.new.folder) c.args.has_executed_need found.result found.ensures.may_be found.ensures.read found.ensures.blame
     found.ensures.blamed)
 
 pub returns-clause-alone : goal.returns-clause-alone
@@ -25,7 +25,7 @@ returns-clause-alone g c =
     let F = g.F.Folder in
     let found = c.prepare_by_seen-prepared in
     subst (λ (s : Settled). AnswersAlone c.args.task.now.runs (is_empty c.args.task.now.actions) c.args.has_executed_need s) (sym c.settled_by.ensures.settled)
-    (alone c.args.task.now c.args.path c.requires.path (F.failures c.args.folder.now) (F.failures found.new.folder) c.args.has_executed_need found.result found.ensures.may_be found.ensures.reads)
+    (alone c.args.task.now c.args.path c.requires.path (F.device.failures c.args.folder.now) (F.device.failures found.new.folder) c.args.has_executed_need found.result found.ensures.may_be found.ensures.reading)
 
 pub returns-clause-answer : goal.returns-clause-answer
 returns-clause-answer g c =
@@ -39,10 +39,10 @@ returns-clause-settled g c = λ faithful there kinds registry_of plan moment fol
     let start = c.args.folder.now in
     let found = c.prepare_by_seen-prepared in
     let now = found.new.folder in
-    subst (λ (s : Settled). SettlesExecution (setting_with kinds registry_of (F.may_leave start)) c.args.options plan c.args.task.now moment (F.contents start) (F.failures now) s) (sym c.settled_by.ensures.settled)
-    (settles (setting_with kinds registry_of (F.may_leave start)) c.args.options plan c.args.task.now c.args.path moment (F.contents start) (F.failures start) (F.failures now) c.args.has_executed_need
+    subst (λ (s : Settled). SettlesExecution (setting_with kinds registry_of (F.device.may_leave start)) c.args.options plan c.args.task.now moment (F.device.contents start) (F.device.failures now) s) (sym c.settled_by.ensures.settled)
+    (settles (setting_with kinds registry_of (F.device.may_leave start)) c.args.options plan c.args.task.now c.args.path moment (F.device.contents start) (F.device.failures start) (F.device.failures now) c.args.has_executed_need
     (option_copied c.args.last) c.requires.not_own folder count needed known c.outside_is_enough.ensures c.prepared_is_case.ensures c.idle_executions_are_executions.ensures c.runs_are_of_case.ensures
-    found.result (found.ensures.prepared faithful there) (found.ensures.observed faithful there) (found.ensures.err faithful) found.ensures.reads found.ensures.blamed)
+    found.result (found.ensures.prepared faithful there) (found.ensures.observed faithful there) (found.ensures.err faithful) found.ensures.reading found.ensures.blamed)
 
 pub returns-clause-answered : goal.returns-clause-answered
 returns-clause-answered g c = λ since before was.
@@ -50,8 +50,8 @@ returns-clause-answered g c = λ since before was.
     let found = c.prepare_by_seen-prepared in
     let start = c.args.folder.now in
     let now = found.new.folder in
-    subst (λ (s : Settled). WasSettled F.failures F.may_leave F.allowed since start now c.args.options c.args.task.now (option_copied c.args.last) s) (sym c.settled_by.ensures.settled)
-    (was_settled F.failures F.may_leave F.allowed since start now c.args.options c.args.task.now (option_copied c.args.last) c.args.path c.args.has_executed_need found.result found.ensures.may_be
+    subst (λ (s : Settled). WasSettled F.device since start now c.args.options c.args.task.now (option_copied c.args.last) s) (sym c.settled_by.ensures.settled)
+    (was_settled F.device since start now c.args.options c.args.task.now (option_copied c.args.last) c.args.path c.args.has_executed_need found.result found.ensures.may_be
     (found.ensures.answered since before was))
 
 pub returns-clause-remembers : goal.returns-clause-remembers
@@ -60,8 +60,8 @@ returns-clause-remembers g c =
     let found = c.prepare_by_seen-prepared in
     let start = c.args.folder.now in
     let now = found.new.folder in
-    subst (λ (s : Settled). Remembers F.failures F.may_leave F.allowed start now c.args.seen.now c.settled_by.new.seen s) (sym c.settled_by.ensures.settled)
-    (remembers F.failures F.may_leave F.allowed start now c.args.options c.args.task.now (option_copied c.args.last) c.settled_by.new.seen found.new.seen c.args.seen.now found.ensures.seen
+    subst (λ (s : Settled). Remembers F.device start now c.args.seen.now c.settled_by.new.seen s) (sym c.settled_by.ensures.settled)
+    (remembers F.device start now c.args.options c.args.task.now (option_copied c.args.last) c.settled_by.new.seen found.new.seen c.args.seen.now found.ensures.seen
     c.args.path c.args.has_executed_need found.result c.settled_by.ensures.seen found.ensures.answered)
 
 pub returns-clause-seen_in : goal.returns-clause-seen_in
@@ -69,6 +69,6 @@ returns-clause-seen_in g c = λ faithful there.
     let F = g.F.Folder in
     let found = c.prepare_by_seen-prepared in
     let start = c.args.folder.now in
-    subst (λ (contents : Contents). AreSeenIn contents.files c.settled_by.new.seen) (sym (found.ensures.same faithful))
-    (remembers_in c.args.task.now (F.contents start).files c.settled_by.new.seen found.new.seen c.args.has_executed_need found.result c.settled_by.ensures.seen (found.ensures.observed faithful there)
+    subst (λ (contents : Contents). AreSeenIn contents.files c.settled_by.new.seen) (sym (found.ensures.reads.same faithful))
+    (remembers_in c.args.task.now (F.device.contents start).files c.settled_by.new.seen found.new.seen c.args.has_executed_need found.result c.settled_by.ensures.seen (found.ensures.observed faithful there)
     (found.ensures.seen_in faithful there))

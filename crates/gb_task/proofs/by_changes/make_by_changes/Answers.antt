@@ -32,12 +32,12 @@ returns-in_err-outputs-clause-err g c = λ faithful.
     let now = c.run_by_changes.new.folder in
     let p = err_from_is_err_and c.from_residual-in_err-outputs.result c.from_residual-in_err-outputs.ensures.1 in
     let IsFault : Fault → Type 0 = λ fault. (kinds : Kinds) → Agrees g.A.Actions.meanings c.args.table.now kinds → (old : Trees)
-    → GoesOn kinds task old c.args.inputs.trees c.args.changes c.args.outputs.observed (F.contents start).files
-    → Fails (run_input kinds task c.args.inputs.trees c.args.changes (rest_of task (F.contents start).files)) (ByChanges (F.contents start).files) (F.may_leave start) (F.failures start) fault c.run_by_changes.new.lines (F.failures now) (F.contents now).files in
+    → GoesOn kinds task old c.args.inputs.trees c.args.changes c.args.outputs.observed (F.device.contents start).files
+    → Fails (run_input kinds task c.args.inputs.trees c.args.changes (rest_of task (F.device.contents start).files)) (ByChanges (F.device.contents start).files) (F.device.may_leave start) (F.device.failures start) fault c.run_by_changes.new.lines (F.device.failures now) (F.device.contents now).files in
     at_err (λ r. IfErr r IsFault) c.from_residual-in_err-outputs.result p.0 faults.OutOfMemory p.1 p.2 (λ kinds agrees old goes.
     let writer = writer_of kinds task.actions goes.one_writer in
-    cut_by_changes kinds (run_input kinds task c.args.inputs.trees c.args.changes (rest_of task (F.contents start).files)) (F.contents start).files (F.may_leave start) (F.failures start) (F.failures now)
-    c.run_by_changes.new.lines (F.contents now).files refl writer.0 writer.1 (c.in_ok-made.ensures.ok faithful kinds agrees old goes))
+    cut_by_changes kinds (run_input kinds task c.args.inputs.trees c.args.changes (rest_of task (F.device.contents start).files)) (F.device.contents start).files (F.device.may_leave start) (F.device.failures start) (F.device.failures now)
+    c.run_by_changes.new.lines (F.device.contents now).files refl writer.0 writer.1 (c.in_ok-made.ensures.ok faithful kinds agrees old goes))
 
 pub record_of-requires-clause-inputs : goal.record_of-requires-clause-inputs
 record_of-requires-clause-inputs g c = named_digests c.args.inputs.prints.items c.args.inputs.trees _ c.requires.digests c.requires.named
@@ -55,12 +55,12 @@ returns-in_err-record_of-clause-err g c = λ faithful.
     let now = c.run_by_changes.new.folder in
     let p = err_from_is_err_and c.from_residual-in_err-record_of.result c.from_residual-in_err-record_of.ensures.1 in
     let IsFault : Fault → Type 0 = λ fault. (kinds : Kinds) → Agrees g.A.Actions.meanings c.args.table.now kinds → (old : Trees)
-    → GoesOn kinds task old c.args.inputs.trees c.args.changes c.args.outputs.observed (F.contents start).files
-    → Fails (run_input kinds task c.args.inputs.trees c.args.changes (rest_of task (F.contents start).files)) (ByChanges (F.contents start).files) (F.may_leave start) (F.failures start) fault c.run_by_changes.new.lines (F.failures now) (F.contents now).files in
+    → GoesOn kinds task old c.args.inputs.trees c.args.changes c.args.outputs.observed (F.device.contents start).files
+    → Fails (run_input kinds task c.args.inputs.trees c.args.changes (rest_of task (F.device.contents start).files)) (ByChanges (F.device.contents start).files) (F.device.may_leave start) (F.device.failures start) fault c.run_by_changes.new.lines (F.device.failures now) (F.device.contents now).files in
     at_err (λ r. IfErr r IsFault) c.from_residual-in_err-record_of.result p.0 faults.OutOfMemory p.1 p.2 (λ kinds agrees old goes.
     let writer = writer_of kinds task.actions goes.one_writer in
-    cut_by_changes kinds (run_input kinds task c.args.inputs.trees c.args.changes (rest_of task (F.contents start).files)) (F.contents start).files (F.may_leave start) (F.failures start) (F.failures now)
-    c.run_by_changes.new.lines (F.contents now).files refl writer.0 writer.1 (c.in_ok-made.ensures.ok faithful kinds agrees old goes))
+    cut_by_changes kinds (run_input kinds task c.args.inputs.trees c.args.changes (rest_of task (F.device.contents start).files)) (F.device.contents start).files (F.device.may_leave start) (F.device.failures start) (F.device.failures now)
+    c.run_by_changes.new.lines (F.device.contents now).files refl writer.0 writer.1 (c.in_ok-made.ensures.ok faithful kinds agrees old goes))
 
 pub returns-clause-made : goal.returns-clause-made
 returns-clause-made g c = λ kinds agrees old existing is_folder placed goes.
@@ -76,8 +76,8 @@ returns-in_err-made-clause-err g c = λ faithful.
     let now = c.run_by_changes.new.folder in
     let p = err_from_is_err_and c.from_residual.result c.from_residual.ensures.1 in
     let IsFault : Fault → Type 0 = λ fault. (kinds : Kinds) → Agrees g.A.Actions.meanings c.args.table.now kinds → (old : Trees)
-    → GoesOn kinds task old c.args.inputs.trees c.args.changes c.args.outputs.observed (F.contents start).files
-    → Fails (run_input kinds task c.args.inputs.trees c.args.changes (rest_of task (F.contents start).files)) (ByChanges (F.contents start).files) (F.may_leave start) (F.failures start) fault c.run_by_changes.new.lines (F.failures now) (F.contents now).files in
+    → GoesOn kinds task old c.args.inputs.trees c.args.changes c.args.outputs.observed (F.device.contents start).files
+    → Fails (run_input kinds task c.args.inputs.trees c.args.changes (rest_of task (F.device.contents start).files)) (ByChanges (F.device.contents start).files) (F.device.may_leave start) (F.device.failures start) fault c.run_by_changes.new.lines (F.device.failures now) (F.device.contents now).files in
     at_err (λ r. IfErr r IsFault) c.from_residual.result p.0 c.in_err-made.field-0.0 p.1 p.2 (c.in_err-made.ensures.err faithful)
 
 pub returns-in_err-made-clause-calls : goal.returns-in_err-made-clause-calls

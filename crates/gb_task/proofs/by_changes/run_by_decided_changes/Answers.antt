@@ -28,7 +28,7 @@ use Rattle.gb_task.proofs.by_changes.run_by_decided_changes.Goals as goal
 pub returns-in_err-forget-clause-changes : goal.returns-in_err-forget-clause-changes
 returns-in_err-forget-clause-changes g c = λ faithful.
     let F = g.F.Folder in
-    record_in_execution c.args.task.now (F.contents c.args.folder.now) (F.contents c.forget.new.folder) (c.forget.ensures.changes faithful)
+    record_in_execution c.args.task.now (F.device.contents c.args.folder.now) (F.device.contents c.forget.new.folder) (c.forget.ensures.changes faithful)
 
 pub returns-in_err-forget-clause-execution : goal.returns-in_err-forget-clause-execution
 returns-in_err-forget-clause-execution g c = λ faithful kinds registry_of options plan moment given at are_trees are_outputs due.
@@ -39,24 +39,24 @@ returns-in_err-forget-clause-execution g c = λ faithful kinds registry_of optio
     let memory = moment.world.memory in
     let records = c.forget.ensures.exists faithful given.tears memory at.records (none_read (recalled memory task.path) true at.read) in
     let p = err_from_is_err_and c.from_residual.result c.from_residual.ensures.1 in
-    at_err (λ (r : Result (Unit {0}) Fault). HasExecuted (setting_with kinds registry_of (F.may_leave start)) options plan task moment (report_of task r c.args.lines.now) (F.contents start) (F.failures now) (F.contents now))
+    at_err (λ (r : Result (Unit {0}) Fault). HasExecuted (setting_with kinds registry_of (F.device.may_leave start)) options plan task moment (report_of task r c.args.lines.now) (F.device.contents start) (F.device.failures now) (F.device.contents now))
     c.from_residual.result p.0 c.in_err-forget.field-0.0 p.1 p.2
-    (forgetting_failed kinds registry_of (F.may_leave start) options plan task true moment (F.contents start) (F.failures start) c.args.changes c.requires.buildable.not_own c.requires.separate at due
-    c.in_err-forget.field-0.0 c.args.lines.now (F.failures start) (F.failures now) (F.contents start) (F.contents now) c.requires.no_lines refl
+    (forgetting_failed kinds registry_of (F.device.may_leave start) options plan task true moment (F.device.contents start) (F.device.failures start) c.args.changes c.requires.buildable.not_own c.requires.separate at due
+    c.in_err-forget.field-0.0 c.args.lines.now (F.device.failures start) (F.device.failures now) (F.device.contents start) (F.device.contents now) c.requires.no_lines refl
     (omega arith) c.forget.ensures.requests.count refl (c.in_err-forget.ensures.err faithful) (c.forget.ensures.changes faithful)
-    (subst (λ (r : Result (Unit {0}) Fault). IsForgotten task.path memory r (F.contents now).files) c.in_err-forget.was records))
+    (subst (λ (r : Result (Unit {0}) Fault). IsForgotten task.path memory r (F.device.contents now).files) c.in_err-forget.was records))
 
 pub returns-in_err-run-clause-changes : goal.returns-in_err-run-clause-changes
 returns-in_err-run-clause-changes g c = λ faithful.
     let F = g.F.Folder in
     let task = c.args.task.now in
-    changes_chain (is_of_execution task) (F.contents c.args.folder.now) (F.contents c.forget.new.folder) (F.contents c.make_by_changes.new.folder)
-    (record_in_execution task (F.contents c.args.folder.now) (F.contents c.forget.new.folder) (c.forget.ensures.changes (c.make_by_changes.ensures.back faithful)))
-    (outputs_in_execution task (F.contents c.forget.new.folder) (F.contents c.make_by_changes.new.folder) (c.make_by_changes.ensures.changes faithful))
+    changes_chain (is_of_execution task) (F.device.contents c.args.folder.now) (F.device.contents c.forget.new.folder) (F.device.contents c.make_by_changes.new.folder)
+    (record_in_execution task (F.device.contents c.args.folder.now) (F.device.contents c.forget.new.folder) (c.forget.ensures.changes (c.make_by_changes.ensures.requests.back faithful)))
+    (outputs_in_execution task (F.device.contents c.forget.new.folder) (F.device.contents c.make_by_changes.new.folder) (c.make_by_changes.ensures.changes faithful))
 
 pub returns-in_err-run-clause-execution : goal.returns-in_err-run-clause-execution
 returns-in_err-run-clause-execution g c = λ faithful kinds registry_of options plan moment given at are_trees are_outputs due.
-    let then_known = c.make_by_changes.ensures.back faithful in
+    let then_known = c.make_by_changes.ensures.requests.back faithful in
     let F = g.F.Folder in
     let task = c.args.task.now in
     let start = c.args.folder.now in
@@ -64,38 +64,38 @@ returns-in_err-run-clause-execution g c = λ faithful kinds registry_of options 
     let now = c.make_by_changes.new.folder in
     let memory = moment.world.memory in
     let records = c.forget.ensures.exists then_known given.tears memory at.records (none_read (recalled memory task.path) true at.read) in
-    let forgotten : HoldsRecords (F.contents then).files (forget memory task.path) =
-    subst (λ (r : Result (Unit {0}) Fault). IsForgotten task.path memory r (F.contents then).files) c.in_ok-forget.was records in
-    let gone : ChangesOnly (is_at (record_place task.path)) (F.contents start) (F.contents then) = c.forget.ensures.changes then_known in
-    let goes = goes_on kinds registry_of (F.may_leave start) options plan task true moment (F.contents start) (F.failures start) c.args.changes c.requires.buildable.not_own c.requires.separate at due
-    c.requires.buildable.in_order c.as_str-path.ensures.path c.requires.outputs_separate (F.contents then) gone c.args.inputs.trees c.args.outputs.observed are_trees are_outputs in
+    let forgotten : HoldsRecords (F.device.contents then).files (forget memory task.path) =
+    subst (λ (r : Result (Unit {0}) Fault). IsForgotten task.path memory r (F.device.contents then).files) c.in_ok-forget.was records in
+    let gone : ChangesOnly (is_at (record_place task.path)) (F.device.contents start) (F.device.contents then) = c.forget.ensures.changes then_known in
+    let goes = goes_on kinds registry_of (F.device.may_leave start) options plan task true moment (F.device.contents start) (F.device.failures start) c.args.changes c.requires.buildable.not_own c.requires.separate at due
+    c.requires.buildable.in_order c.as_str-path.ensures.path c.requires.outputs_separate (F.device.contents then) gone c.args.inputs.trees c.args.outputs.observed are_trees are_outputs in
     let p = err_from_is_err_and c.from_residual-in_err-run.result c.from_residual-in_err-run.ensures.1 in
-    at_err (λ (r : Result (Unit {0}) Fault). HasExecuted (setting_with kinds registry_of (F.may_leave start)) options plan task moment (report_of task r c.make_by_changes.new.lines) (F.contents start) (F.failures now) (F.contents now))
+    at_err (λ (r : Result (Unit {0}) Fault). HasExecuted (setting_with kinds registry_of (F.device.may_leave start)) options plan task moment (report_of task r c.make_by_changes.new.lines) (F.device.contents start) (F.device.failures now) (F.device.contents now))
     c.from_residual-in_err-run.result p.0 c.in_err-run.field-0.0 p.1 p.2
-    (running_failed kinds registry_of (F.may_leave start) options plan task true moment (F.contents start) (F.failures start) c.args.changes c.requires.buildable.not_own c.requires.separate at due
-    (F.may_leave then) c.make_by_changes.new.lines (F.failures then) (F.contents then) (F.contents now) c.args.inputs.trees
+    (running_failed kinds registry_of (F.device.may_leave start) options plan task true moment (F.device.contents start) (F.device.failures start) c.args.changes c.requires.buildable.not_own c.requires.separate at due
+    (F.device.may_leave then) c.make_by_changes.new.lines (F.device.failures then) (F.device.contents then) (F.device.contents now) c.args.inputs.trees
     c.forget.ensures.requests.tearing c.forget.ensures.requests.count gone forgotten
     are_trees (c.make_by_changes.ensures.changes faithful)
-    (returns-in_err-run-clause-changes g c faithful) c.in_err-run.field-0.0 (F.failures now) c.make_by_changes.ensures.requests.count
+    (returns-in_err-run-clause-changes g c faithful) c.in_err-run.field-0.0 (F.device.failures now) c.make_by_changes.ensures.requests.count
     (λ place e. c.make_by_changes.ensures.blamed place (c.in_err-run.was ∙ ap Err e))
     (all_fitting g.A.Actions.meanings kinds c.args.table.now task task.actions g.A.Actions.own_output given.agrees c.requires.buildable.ready)
     (c.in_err-run.ensures.err faithful kinds given.agrees _ goes))
 
 pub returns-clause-changes : goal.returns-clause-changes
 returns-clause-changes g c = λ faithful.
-    let made = c.remember.ensures.back faithful in
+    let made = c.remember.ensures.requests.back faithful in
     let F = g.F.Folder in
     let task = c.args.task.now in
-    changes_chain (is_of_execution task) (F.contents c.args.folder.now) (F.contents c.make_by_changes.new.folder) (F.contents c.remember.new.folder)
-    (changes_chain (is_of_execution task) (F.contents c.args.folder.now) (F.contents c.forget.new.folder) (F.contents c.make_by_changes.new.folder)
-    (record_in_execution task (F.contents c.args.folder.now) (F.contents c.forget.new.folder) (c.forget.ensures.changes (c.make_by_changes.ensures.back made)))
-    (outputs_in_execution task (F.contents c.forget.new.folder) (F.contents c.make_by_changes.new.folder) (c.make_by_changes.ensures.changes made)))
-    (record_in_execution task (F.contents c.make_by_changes.new.folder) (F.contents c.remember.new.folder) (c.remember.ensures.changes faithful))
+    changes_chain (is_of_execution task) (F.device.contents c.args.folder.now) (F.device.contents c.make_by_changes.new.folder) (F.device.contents c.remember.new.folder)
+    (changes_chain (is_of_execution task) (F.device.contents c.args.folder.now) (F.device.contents c.forget.new.folder) (F.device.contents c.make_by_changes.new.folder)
+    (record_in_execution task (F.device.contents c.args.folder.now) (F.device.contents c.forget.new.folder) (c.forget.ensures.changes (c.make_by_changes.ensures.requests.back made)))
+    (outputs_in_execution task (F.device.contents c.forget.new.folder) (F.device.contents c.make_by_changes.new.folder) (c.make_by_changes.ensures.changes made)))
+    (record_in_execution task (F.device.contents c.make_by_changes.new.folder) (F.device.contents c.remember.new.folder) (c.remember.ensures.changes faithful))
 
 pub returns-clause-execution : goal.returns-clause-execution
 returns-clause-execution g c = λ faithful kinds registry_of options plan moment given at are_trees are_outputs due.
-    let ran_known = c.remember.ensures.back faithful in
-    let then_known = c.make_by_changes.ensures.back ran_known in
+    let ran_known = c.remember.ensures.requests.back faithful in
+    let then_known = c.make_by_changes.ensures.requests.back ran_known in
     let F = g.F.Folder in
     let task = c.args.task.now in
     let start = c.args.folder.now in
@@ -104,32 +104,32 @@ returns-clause-execution g c = λ faithful kinds registry_of options plan moment
     let now = c.remember.new.folder in
     let memory = moment.world.memory in
     let records = c.forget.ensures.exists then_known given.tears memory at.records (none_read (recalled memory task.path) true at.read) in
-    let forgotten : HoldsRecords (F.contents then).files (forget memory task.path) =
-    subst (λ (r : Result (Unit {0}) Fault). IsForgotten task.path memory r (F.contents then).files) c.in_ok-forget.was records in
-    let gone : ChangesOnly (is_at (record_place task.path)) (F.contents start) (F.contents then) = c.forget.ensures.changes then_known in
-    let goes = goes_on kinds registry_of (F.may_leave start) options plan task true moment (F.contents start) (F.failures start) c.args.changes c.requires.buildable.not_own c.requires.separate at due
-    c.requires.buildable.in_order c.as_str-path.ensures.path c.requires.outputs_separate (F.contents then) gone c.args.inputs.trees c.args.outputs.observed are_trees are_outputs in
-    let changed : ChangesOnly (is_of_execution task) (F.contents start) (F.contents ran) =
-    changes_chain (is_of_execution task) (F.contents start) (F.contents then) (F.contents ran)
-    (record_in_execution task (F.contents start) (F.contents then) gone)
-    (outputs_in_execution task (F.contents then) (F.contents ran) (c.make_by_changes.ensures.changes ran_known)) in
+    let forgotten : HoldsRecords (F.device.contents then).files (forget memory task.path) =
+    subst (λ (r : Result (Unit {0}) Fault). IsForgotten task.path memory r (F.device.contents then).files) c.in_ok-forget.was records in
+    let gone : ChangesOnly (is_at (record_place task.path)) (F.device.contents start) (F.device.contents then) = c.forget.ensures.changes then_known in
+    let goes = goes_on kinds registry_of (F.device.may_leave start) options plan task true moment (F.device.contents start) (F.device.failures start) c.args.changes c.requires.buildable.not_own c.requires.separate at due
+    c.requires.buildable.in_order c.as_str-path.ensures.path c.requires.outputs_separate (F.device.contents then) gone c.args.inputs.trees c.args.outputs.observed are_trees are_outputs in
+    let changed : ChangesOnly (is_of_execution task) (F.device.contents start) (F.device.contents ran) =
+    changes_chain (is_of_execution task) (F.device.contents start) (F.device.contents then) (F.device.contents ran)
+    (record_in_execution task (F.device.contents start) (F.device.contents then) gone)
+    (outputs_in_execution task (F.device.contents then) (F.device.contents ran) (c.make_by_changes.ensures.changes ran_known)) in
     let ended = c.in_ok-run.ensures.ok ran_known kinds given.agrees _ goes in
-    let exists : c.in_ok-run.run' ≡ run_now task c.args.inputs.prints.items (F.contents ran).files =
-    record_exists kinds task c.args.inputs.trees c.args.inputs.prints.items (F.contents ran).files c.in_ok-run.run'
-    (c.in_ok-run.ensures.made kinds given.agrees _ (F.contents then).files (g.met.F.Folder.sound then) (g.met.F.Folder.placed then) goes) c.requires.digests
-    (λ held makes. made_exists kinds task c.args.inputs.trees c.args.changes (F.contents then).files c.make_by_changes.new.lines (F.contents ran).files held
+    let exists : c.in_ok-run.run' ≡ run_now task c.args.inputs.prints.items (F.device.contents ran).files =
+    record_exists kinds task c.args.inputs.trees c.args.inputs.prints.items (F.device.contents ran).files c.in_ok-run.run'
+    (c.in_ok-run.ensures.made kinds given.agrees _ (F.device.contents then).files (g.met.F.Folder.sound then) (g.met.F.Folder.placed then) goes) c.requires.digests
+    (λ held makes. made_exists kinds task c.args.inputs.trees c.args.changes (F.device.contents then).files c.make_by_changes.new.lines (F.device.contents ran).files held
     (g.met.F.Folder.sound then).in_order ended makes) in
-    remembering kinds registry_of (F.may_leave start) options plan task true moment (F.contents start) (F.failures start) c.args.changes c.requires.buildable.not_own c.requires.separate at due
-    (F.may_leave then) c.make_by_changes.new.lines (F.failures then) (F.contents then) (F.contents ran) c.args.inputs.trees
+    remembering kinds registry_of (F.device.may_leave start) options plan task true moment (F.device.contents start) (F.device.failures start) c.args.changes c.requires.buildable.not_own c.requires.separate at due
+    (F.device.may_leave then) c.make_by_changes.new.lines (F.device.failures then) (F.device.contents then) (F.device.contents ran) c.args.inputs.trees
     c.forget.ensures.requests.tearing c.forget.ensures.requests.count gone forgotten
     are_trees (c.make_by_changes.ensures.changes ran_known) changed
-    (g.met.F.Folder.sound then).in_order ended c.args.inputs.prints.items (F.failures ran) (F.failures now) (F.contents now)
+    (g.met.F.Folder.sound then).in_order ended c.args.inputs.prints.items (F.device.failures ran) (F.device.failures now) (F.device.contents now)
     (c.requires.digests ∙ ap digests_in are_trees)
     c.make_by_changes.ensures.requests.count c.remember.ensures.requests.count
-    (changes_chain (is_of_execution task) (F.contents start) (F.contents ran) (F.contents now) changed (record_in_execution task (F.contents ran) (F.contents now) (c.remember.ensures.changes faithful)))
-    (ap (λ (folder : Contents). folder.files) (outside_same task.path (F.contents ran) (F.contents now) (c.remember.ensures.changes faithful)))
+    (changes_chain (is_of_execution task) (F.device.contents start) (F.device.contents ran) (F.device.contents now) changed (record_in_execution task (F.device.contents ran) (F.device.contents now) (c.remember.ensures.changes faithful)))
+    (ap (λ (folder : Contents). folder.files) (outside_same task.path (F.device.contents ran) (F.device.contents now) (c.remember.ensures.changes faithful)))
     c.remember.result
-    (subst (λ (run : Record). IfErr c.remember.result (IsUnwritten task.path (Some (record_text task.path run)) (F.contents ran).files (F.failures ran) (F.failures now))) exists (c.remember.ensures.err faithful))
+    (subst (λ (run : Record). IfErr c.remember.result (IsUnwritten task.path (Some (record_text task.path run)) (F.device.contents ran).files (F.device.failures ran) (F.device.failures now))) exists (c.remember.ensures.err faithful))
     c.remember.ensures.outputs
     (λ m entry existed of. c.remember.ensures.exists faithful (observed_later _ _ (SameTearing-chain _ _ _ c.forget.ensures.requests.tearing c.make_by_changes.ensures.requests.tearing) given.tears) m entry existed
     (subst (λ (run : Record). IsSaidOf run entry) (sym exists) of))

@@ -15,7 +15,7 @@ use Rattle.gb_task.proofs.clearing.clear.Goals as goal
 
 pub returns-in_err-forget-clause-changes : goal.returns-in_err-forget-clause-changes
 returns-in_err-forget-clause-changes g c = λ faithful.
-    record_in_execution c.args.task.now (g.F.Folder.contents c.args.folder.now) (g.F.Folder.contents c.forget.new.folder) (c.forget.ensures.changes faithful)
+    record_in_execution c.args.task.now (g.F.Folder.device.contents c.args.folder.now) (g.F.Folder.device.contents c.forget.new.folder) (c.forget.ensures.changes faithful)
 
 pub returns-in_err-forget-clause-cleared : goal.returns-in_err-forget-clause-cleared
 returns-in_err-forget-clause-cleared g c = λ faithful observed memory existed none.
@@ -23,9 +23,9 @@ returns-in_err-forget-clause-cleared g c = λ faithful observed memory existed n
     let task = c.args.task.now in
     let start = c.args.folder.now in
     let now = c.forget.new.folder in
-    let new : Contents = F.contents now in
+    let new : Contents = F.device.contents now in
     let p = err_from_is_err_and c.from_residual.result c.from_residual.ensures.1 in
-    at_err (λ r. HasCleared task c.args.was_read memory (F.may_leave start) (F.failures start) (F.contents start) r (F.failures now) (F.contents now)) c.from_residual.result p.0 c.in_err-forget.field-0.0 p.1 p.2
+    at_err (λ r. HasCleared task c.args.was_read memory (F.device.may_leave start) (F.device.failures start) (F.device.contents start) r (F.device.failures now) (F.device.contents now)) c.from_residual.result p.0 c.in_err-forget.field-0.0 p.1 p.2
     (inl (record {
       read = c.in_err-forget.ensures.read;
       why = c.in_err-forget.ensures.err faithful;
@@ -37,23 +37,23 @@ pub returns-clause-changes : goal.returns-clause-changes
 returns-clause-changes g c = λ faithful.
     let F = g.F.Folder in
     let task = c.args.task.now in
-    changes_chain (is_of_execution task) (F.contents c.args.folder.now) (F.contents c.forget.new.folder) (F.contents c.empty_outputs.new.folder)
-    (record_in_execution task (F.contents c.args.folder.now) (F.contents c.forget.new.folder) (c.forget.ensures.changes (c.empty_outputs.ensures.back faithful)))
-    (outputs_in_execution task (F.contents c.forget.new.folder) (F.contents c.empty_outputs.new.folder) (c.empty_outputs.ensures.changes faithful))
+    changes_chain (is_of_execution task) (F.device.contents c.args.folder.now) (F.device.contents c.forget.new.folder) (F.device.contents c.empty_outputs.new.folder)
+    (record_in_execution task (F.device.contents c.args.folder.now) (F.device.contents c.forget.new.folder) (c.forget.ensures.changes (c.empty_outputs.ensures.requests.back faithful)))
+    (outputs_in_execution task (F.device.contents c.forget.new.folder) (F.device.contents c.empty_outputs.new.folder) (c.empty_outputs.ensures.changes faithful))
 
 pub returns-clause-cleared : goal.returns-clause-cleared
 returns-clause-cleared g c = λ faithful observed memory existed none.
-    let forgotten = c.empty_outputs.ensures.back faithful in
+    let forgotten = c.empty_outputs.ensures.requests.back faithful in
     let F = g.F.Folder in
     let task = c.args.task.now in
     let start = c.args.folder.now in
     let then = c.forget.new.folder in
     let now = c.empty_outputs.new.folder in
-    let taken : Contents = F.contents then in
-    cleared_by task c.args.was_read memory (F.may_leave start) (F.may_leave then) (F.failures start) (F.failures then) (F.failures now) (F.contents start) (F.contents then) (F.contents now)
+    let taken : Contents = F.device.contents then in
+    cleared_by task c.args.was_read memory (F.device.may_leave start) (F.device.may_leave then) (F.device.failures start) (F.device.failures then) (F.device.failures now) (F.device.contents start) (F.device.contents then) (F.device.contents now)
     c.empty_outputs.result c.forget.ensures.requests.tearing c.forget.ensures.requests.count c.empty_outputs.ensures.requests.count (g.met.F.Folder.sound then) (c.forget.ensures.changes forgotten)
     (c.empty_outputs.ensures.ok faithful) (c.empty_outputs.ensures.err faithful)
-    (records_stay task c.requires.not_own (F.contents then) (F.contents now) _ (c.empty_outputs.ensures.changes faithful)
+    (records_stay task c.requires.not_own (F.device.contents then) (F.device.contents now) _ (c.empty_outputs.ensures.changes faithful)
     (subst (λ (r : Result (Unit {0}) Fault). IsForgotten task.path memory r taken.files) c.in_ok-forget.was (c.forget.ensures.exists forgotten observed memory existed none)))
 
 pub returns-in_err-forget-clause-requests : goal.returns-in_err-forget-clause-requests

@@ -24,10 +24,10 @@ pub returns-then-is_by_changes-clause-execution : goal.returns-then-is_by_change
 returns-then-is_by_changes-clause-execution g c = λ faithful kinds registry_of plan moment given at case case_for runs exists known.
     let F = g.F.Folder in
     let task = c.args.task.now in
-    let files = (F.contents c.args.folder.now).files in
+    let files = (F.device.contents c.args.folder.now).files in
     let changes = c.is_by_changes.ensures.decided c.if-is_by_changes.true in
     c.execute_by_changes.ensures.execution faithful kinds registry_of plan moment given
-    (subst (λ (o : Option (Bor Record)). BeginsAt task (is_some (option_copied o)) (F.contents c.args.folder.now) (F.failures c.args.folder.now) moment) c.in-Some.is at)
+    (subst (λ (o : Option (Bor Record)). BeginsAt task (is_some (option_copied o)) (F.device.contents c.args.folder.now) (F.device.failures c.args.folder.now) moment) c.in-Some.is at)
     (inputs_exist task files c.args.observed c.args.decision c.requires.due exists) (outputs_exist task files c.args.observed c.args.decision changes.0 changes.1 exists)
     (due_to_go_on kinds c.args.options task moment.world c.args.decision changes.0 _ changes.1 case case_for (c.is_by_changes.ensures.agreed kinds given.agrees ∙ c.if-is_by_changes.true)
     (subst (λ (o : Option (Bor Record)). IsKnown kinds task moment.world (option_copied o)) c.in-Some.is known))
@@ -37,8 +37,8 @@ returns-clause-execution g c = λ faithful kinds registry_of plan moment given a
     let F = g.F.Folder in
     let task = c.args.task.now in
     c.execute_in_full.ensures.execution faithful kinds registry_of c.args.options plan moment given
-    (subst (λ (b : Bool). BeginsAt task b (F.contents c.args.folder.now) (F.failures c.args.folder.now) moment) (copied_some c.args.last ∙ sym c.is_some.ensures) at)
-    (inputs_exist task (F.contents c.args.folder.now).files c.args.observed c.args.decision c.requires.due exists)
+    (subst (λ (b : Bool). BeginsAt task b (F.device.contents c.args.folder.now) (F.device.failures c.args.folder.now) moment) (copied_some c.args.last ∙ sym c.is_some.ensures) at)
+    (inputs_exist task (F.device.contents c.args.folder.now).files c.args.observed c.args.decision c.requires.due exists)
     (elim c.match-last.branch [
       | in-Some+else-is_by_changes w ↦
           due_in_full kinds c.args.options task moment.world c.args.decision case runs (w.is_by_changes.ensures.agreed kinds given.agrees ∙ w.if-is_by_changes.false)
@@ -53,13 +53,13 @@ returns-then-is_by_changes-clause-ran g c = λ first before inputs was.
     let task = c.args.task.now in
     let by = c.execute_by_changes in
     let changes = c.is_by_changes.ensures.decided c.if-is_by_changes.true in
-    let outputs = outputs_answered F.failures F.may_leave F.allowed first c.args.folder.now c.args.options task (option_copied c.args.last) c.args.observed.inputs.items c.args.decision changes.0 c.args.observed.outputs.items changes.1 was in
+    let outputs = outputs_answered F.device first c.args.folder.now c.args.options task (option_copied c.args.last) c.args.observed.inputs.items c.args.decision changes.0 c.args.observed.outputs.items changes.1 was in
     let ran = by.ensures.ran first before inputs outputs in (
       ran.0,
       ran.1,
-      subst (λ (o : Option (Bor Record)). OnlyRead F.failures F.may_leave F.allowed by.result.lines ran.0 first by.new.folder
-          ⊎ WasRun F.failures F.may_leave F.allowed meanings rows task c.args.options (option_copied o) by.result.lines ran.0 first by.new.folder) (sym c.in-Some.is)
-          (was_run F.failures F.may_leave F.allowed meanings rows task c.args.options _ by.result.lines ran.0 first by.new.folder
+      subst (λ (o : Option (Bor Record)). OnlyRead F.device by.result.lines ran.0 first by.new.folder
+          ⊎ WasRun F.device meanings rows task c.args.options (option_copied o) by.result.lines ran.0 first by.new.folder) (sym c.in-Some.is)
+          (was_run F.device meanings rows task c.args.options _ by.result.lines ran.0 first by.new.folder
           (λ kinds agrees. one_writer kinds task c.args.decision changes.0 changes.1 (c.is_by_changes.ensures.agreed kinds agrees ∙ c.if-is_by_changes.true)) ran.2),
     )
 
@@ -73,10 +73,10 @@ returns-clause-ran g c = λ first before inputs was.
     let ran = full.ensures.ran first before inputs in (
       ran.0,
       ran.1,
-      subst (λ (b : Bool). OnlyRead F.failures F.may_leave F.allowed full.result.lines ran.0 first full.new.folder
-          ⊎ RanInFull F.failures F.may_leave F.allowed meanings rows task b full.result.lines ran.0 first full.new.folder
-          → OnlyRead F.failures F.may_leave F.allowed full.result.lines ran.0 first full.new.folder
-          ⊎ WasRun F.failures F.may_leave F.allowed meanings rows task c.args.options (option_copied c.args.last) full.result.lines ran.0 first full.new.folder)
+      subst (λ (b : Bool). OnlyRead F.device full.result.lines ran.0 first full.new.folder
+          ⊎ RanInFull F.device meanings rows task b full.result.lines ran.0 first full.new.folder
+          → OnlyRead F.device full.result.lines ran.0 first full.new.folder
+          ⊎ WasRun F.device meanings rows task c.args.options (option_copied c.args.last) full.result.lines ran.0 first full.new.folder)
           (copied_some c.args.last ∙ sym c.is_some.ensures)
           (λ held. elim held [ inl only ↦ inl only | inr in_full ↦ inr (inl in_full) ])
           ran.2,

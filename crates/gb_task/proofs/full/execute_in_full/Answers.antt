@@ -15,7 +15,7 @@ returns-clause-execution g c = λ faithful kinds registry_of options plan moment
     let start = c.args.folder.now in
     let now = c.run_with_record-ended.new.folder in
     let acts : not c.is_empty-has_actions.result ≡ not (is_empty task.actions) = search rules in
-    subst (λ (report : TaskReport). HasExecuted (setting_with kinds registry_of (F.may_leave start)) options plan task moment report (F.contents start) (F.failures now) (F.contents now))
+    subst (λ (report : TaskReport). HasExecuted (setting_with kinds registry_of (F.device.may_leave start)) options plan task moment report (F.device.contents start) (F.device.failures now) (F.device.contents now))
     (sym (same_report _ _ _ _ _ _ _ _ c.requires.path c.outcome_of.ensures acts refl))
     (c.run_with_record-ended.ensures.execution faithful kinds registry_of options plan moment given at read due)
 

@@ -27,9 +27,9 @@ returns-in_err-outputs-clause-err g c = λ faithful.
     let now = c.run_in_full.new.folder in
     let p = err_from_is_err_and c.from_residual-in_err-outputs.result c.from_residual-in_err-outputs.ensures.1 in
     let IsFault : Fault → Type 0 = λ fault. (kinds : Kinds) → Agrees g.A.Actions.meanings c.args.table.now kinds
-    → Fails (run_input kinds c.args.task.now c.args.trees c.args.changes (F.contents start).files) InFull (F.may_leave start) (F.failures start) fault c.run_in_full.new.lines (F.failures now) (F.contents now).files in
+    → Fails (run_input kinds c.args.task.now c.args.trees c.args.changes (F.device.contents start).files) InFull (F.device.may_leave start) (F.device.failures start) fault c.run_in_full.new.lines (F.device.failures now) (F.device.contents now).files in
     at_err (λ r. IfErr r IsFault) c.from_residual-in_err-outputs.result p.0 faults.OutOfMemory p.1 p.2 (λ kinds agrees.
-    cut_at_end (run_input kinds c.args.task.now c.args.trees c.args.changes (F.contents start).files) InFull (F.may_leave start) (F.failures start) (F.failures now) c.run_in_full.new.lines (F.contents now).files
+    cut_at_end (run_input kinds c.args.task.now c.args.trees c.args.changes (F.device.contents start).files) InFull (F.device.may_leave start) (F.device.failures start) (F.device.failures now) c.run_in_full.new.lines (F.device.contents now).files
     (c.in_ok-made.ensures.ok faithful kinds agrees) refl)
 
 pub record_of-requires-clause-inputs : goal.record_of-requires-clause-inputs
@@ -47,9 +47,9 @@ returns-in_err-record_of-clause-err g c = λ faithful.
     let now = c.run_in_full.new.folder in
     let p = err_from_is_err_and c.from_residual-in_err-record_of.result c.from_residual-in_err-record_of.ensures.1 in
     let IsFault : Fault → Type 0 = λ fault. (kinds : Kinds) → Agrees g.A.Actions.meanings c.args.table.now kinds
-    → Fails (run_input kinds c.args.task.now c.args.trees c.args.changes (F.contents start).files) InFull (F.may_leave start) (F.failures start) fault c.run_in_full.new.lines (F.failures now) (F.contents now).files in
+    → Fails (run_input kinds c.args.task.now c.args.trees c.args.changes (F.device.contents start).files) InFull (F.device.may_leave start) (F.device.failures start) fault c.run_in_full.new.lines (F.device.failures now) (F.device.contents now).files in
     at_err (λ r. IfErr r IsFault) c.from_residual-in_err-record_of.result p.0 faults.OutOfMemory p.1 p.2 (λ kinds agrees.
-    cut_at_end (run_input kinds c.args.task.now c.args.trees c.args.changes (F.contents start).files) InFull (F.may_leave start) (F.failures start) (F.failures now) c.run_in_full.new.lines (F.contents now).files
+    cut_at_end (run_input kinds c.args.task.now c.args.trees c.args.changes (F.device.contents start).files) InFull (F.device.may_leave start) (F.device.failures start) (F.device.failures now) c.run_in_full.new.lines (F.device.contents now).files
     (c.in_ok-made.ensures.ok faithful kinds agrees) refl)
 
 pub returns-clause-made : goal.returns-clause-made
@@ -65,7 +65,7 @@ returns-in_err-made-clause-err g c = λ faithful.
     let now = c.run_in_full.new.folder in
     let p = err_from_is_err_and c.from_residual.result c.from_residual.ensures.1 in
     let IsFault : Fault → Type 0 = λ fault. (kinds : Kinds) → Agrees g.A.Actions.meanings c.args.table.now kinds
-    → Fails (run_input kinds c.args.task.now c.args.trees c.args.changes (F.contents start).files) InFull (F.may_leave start) (F.failures start) fault c.run_in_full.new.lines (F.failures now) (F.contents now).files in
+    → Fails (run_input kinds c.args.task.now c.args.trees c.args.changes (F.device.contents start).files) InFull (F.device.may_leave start) (F.device.failures start) fault c.run_in_full.new.lines (F.device.failures now) (F.device.contents now).files in
     at_err (λ r. IfErr r IsFault) c.from_residual.result p.0 c.in_err-made.field-0.0 p.1 p.2 (c.in_err-made.ensures.err faithful)
 
 pub returns-in_err-made-clause-calls : goal.returns-in_err-made-clause-calls

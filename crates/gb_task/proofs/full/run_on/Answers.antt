@@ -38,10 +38,10 @@ returns-in_err-changes-clause-execution g c = λ faithful kinds registry_of opti
     let task = c.args.task.now in
     let start = c.args.folder.now in
     let p = err_from_is_err_and c.from_residual.result c.from_residual.ensures.1 in
-    at_err (λ (r : Result (Unit {0}) Fault). HasExecuted (setting_with kinds registry_of (F.may_leave start)) options plan task moment (report_of task r c.args.lines.now) (F.contents start) (F.failures start) (F.contents start))
+    at_err (λ (r : Result (Unit {0}) Fault). HasExecuted (setting_with kinds registry_of (F.device.may_leave start)) options plan task moment (report_of task r c.args.lines.now) (F.device.contents start) (F.device.failures start) (F.device.contents start))
     c.from_residual.result p.0 faults.OutOfMemory p.1 p.2
-    (reading_failed kinds registry_of (F.may_leave start) options plan task c.args.was_read moment (F.contents start) (F.failures start) c.requires.buildable.not_own c.requires.separate at due
-    faults.OutOfMemory c.args.lines.now (F.failures start) (F.contents start) c.requires.no_lines refl (inl refl) (λ place e. absurd (let d = e in (cc))))
+    (reading_failed kinds registry_of (F.device.may_leave start) options plan task c.args.was_read moment (F.device.contents start) (F.device.failures start) c.requires.buildable.not_own c.requires.separate at due
+    faults.OutOfMemory c.args.lines.now (F.device.failures start) (F.device.contents start) c.requires.no_lines refl (inl refl) (λ place e. absurd (let d = e in (cc))))
 
 pub returns-in_err-clear-clause-execution : goal.returns-in_err-clear-clause-execution
 returns-in_err-clear-clause-execution g c = λ faithful kinds registry_of options plan moment given at are_trees due.
@@ -52,23 +52,23 @@ returns-in_err-clear-clause-execution g c = λ faithful kinds registry_of option
     let memory = moment.world.memory in
     let cleared = c.clear.ensures.cleared faithful given.tears memory at.records (none_read (recalled memory task.path) c.args.was_read at.read) in
     let p = err_from_is_err_and c.from_residual-in_err-clear.result c.from_residual-in_err-clear.ensures.1 in
-    at_err (λ (r : Result (Unit {0}) Fault). HasExecuted (setting_with kinds registry_of (F.may_leave start)) options plan task moment (report_of task r c.args.lines.now) (F.contents start) (F.failures now) (F.contents now))
+    at_err (λ (r : Result (Unit {0}) Fault). HasExecuted (setting_with kinds registry_of (F.device.may_leave start)) options plan task moment (report_of task r c.args.lines.now) (F.device.contents start) (F.device.failures now) (F.device.contents now))
     c.from_residual-in_err-clear.result p.0 c.in_err-clear.field-0.0 p.1 p.2
-    (clearing_failed kinds registry_of (F.may_leave start) options plan task c.args.was_read moment (F.contents start) (F.failures start) c.requires.buildable.not_own c.requires.separate at due
-    (F.may_leave start) c.in_err-clear.field-0.0 c.args.lines.now (F.failures start) (F.failures now) (F.contents start) (F.contents now) c.requires.no_lines refl
+    (clearing_failed kinds registry_of (F.device.may_leave start) options plan task c.args.was_read moment (F.device.contents start) (F.device.failures start) c.requires.buildable.not_own c.requires.separate at due
+    (F.device.may_leave start) c.in_err-clear.field-0.0 c.args.lines.now (F.device.failures start) (F.device.failures now) (F.device.contents start) (F.device.contents now) c.requires.no_lines refl
     (search rules) (omega arith) c.clear.ensures.requests.count
-    (subst (λ (r : Result (Unit {0}) Fault). HasCleared task c.args.was_read memory (F.may_leave start) (F.failures start) (F.contents start) r (F.failures now) (F.contents now)) c.in_err-clear.was cleared)
+    (subst (λ (r : Result (Unit {0}) Fault). HasCleared task c.args.was_read memory (F.device.may_leave start) (F.device.failures start) (F.device.contents start) r (F.device.failures now) (F.device.contents now)) c.in_err-clear.was cleared)
     (c.clear.ensures.changes faithful)
     (λ place e. c.clear.ensures.blamed place (c.in_err-clear.was ∙ ap Err e)))
 
 pub returns-in_err-run-clause-changes : goal.returns-in_err-run-clause-changes
 returns-in_err-run-clause-changes g c = λ faithful.
-    let cleared = c.make_in_full.ensures.back faithful in
+    let cleared = c.make_in_full.ensures.requests.back faithful in
     let F = g.F.Folder in
     let task = c.args.task.now in
-    changes_chain (is_of_execution task) (F.contents c.args.folder.now) (F.contents c.clear.new.folder) (F.contents c.make_in_full.new.folder)
+    changes_chain (is_of_execution task) (F.device.contents c.args.folder.now) (F.device.contents c.clear.new.folder) (F.device.contents c.make_in_full.new.folder)
     (c.clear.ensures.changes cleared)
-    (outputs_in_execution task (F.contents c.clear.new.folder) (F.contents c.make_in_full.new.folder) (c.make_in_full.ensures.changes faithful))
+    (outputs_in_execution task (F.device.contents c.clear.new.folder) (F.device.contents c.make_in_full.new.folder) (c.make_in_full.ensures.changes faithful))
 
 pub returns-in_err-run-clause-execution : goal.returns-in_err-run-clause-execution
 returns-in_err-run-clause-execution g c = λ faithful kinds registry_of options plan moment given at are_trees due.
@@ -78,34 +78,34 @@ returns-in_err-run-clause-execution g c = λ faithful kinds registry_of options 
     let then = c.clear.new.folder in
     let now = c.make_in_full.new.folder in
     let memory = moment.world.memory in
-    let cleared = c.clear.ensures.cleared (c.make_in_full.ensures.back faithful) given.tears memory at.records (none_read (recalled memory task.path) c.args.was_read at.read) in
-    let is_cleared : IsCleared task memory (F.contents start) (F.contents then) =
-    subst (λ (r : Result (Unit {0}) Fault). HasCleared task c.args.was_read memory (F.may_leave start) (F.failures start) (F.contents start) r (F.failures then) (F.contents then)) c.in_ok-clear.was cleared in
+    let cleared = c.clear.ensures.cleared (c.make_in_full.ensures.requests.back faithful) given.tears memory at.records (none_read (recalled memory task.path) c.args.was_read at.read) in
+    let is_cleared : IsCleared task memory (F.device.contents start) (F.device.contents then) =
+    subst (λ (r : Result (Unit {0}) Fault). HasCleared task c.args.was_read memory (F.device.may_leave start) (F.device.failures start) (F.device.contents start) r (F.device.failures then) (F.device.contents then)) c.in_ok-clear.was cleared in
     let p = err_from_is_err_and c.from_residual-in_err-run.result c.from_residual-in_err-run.ensures.1 in
-    at_err (λ (r : Result (Unit {0}) Fault). HasExecuted (setting_with kinds registry_of (F.may_leave start)) options plan task moment (report_of task r c.make_in_full.new.lines) (F.contents start) (F.failures now) (F.contents now))
+    at_err (λ (r : Result (Unit {0}) Fault). HasExecuted (setting_with kinds registry_of (F.device.may_leave start)) options plan task moment (report_of task r c.make_in_full.new.lines) (F.device.contents start) (F.device.failures now) (F.device.contents now))
     c.from_residual-in_err-run.result p.0 c.in_err-run.field-0.0 p.1 p.2
-    (running_failed kinds registry_of (F.may_leave start) options plan task c.args.was_read moment (F.contents start) (F.failures start) c.requires.buildable.not_own c.requires.separate at due
-    (F.may_leave then) c.make_in_full.new.lines (F.failures then) (F.contents then) (F.contents now) c.args.inputs.trees c.in_ok-changes.changes
+    (running_failed kinds registry_of (F.device.may_leave start) options plan task c.args.was_read moment (F.device.contents start) (F.device.failures start) c.requires.buildable.not_own c.requires.separate at due
+    (F.device.may_leave then) c.make_in_full.new.lines (F.device.failures then) (F.device.contents then) (F.device.contents now) c.args.inputs.trees c.in_ok-changes.changes
     c.clear.ensures.requests.tearing c.clear.ensures.requests.count is_cleared
-    are_trees (c.in_ok-changes.ensures c.args.inputs.trees (c.as_slice.ensures.value ∙ c.requires.digests) ∙ ap (added_of task.files) are_trees ∙ all_of (F.contents start).files task.files) (c.make_in_full.ensures.changes faithful)
-    (returns-in_err-run-clause-changes g c faithful) c.in_err-run.field-0.0 (F.failures now) c.make_in_full.ensures.requests.count
+    are_trees (c.in_ok-changes.ensures c.args.inputs.trees (c.as_slice.ensures.value ∙ c.requires.digests) ∙ ap (added_of task.files) are_trees ∙ all_of (F.device.contents start).files task.files) (c.make_in_full.ensures.changes faithful)
+    (returns-in_err-run-clause-changes g c faithful) c.in_err-run.field-0.0 (F.device.failures now) c.make_in_full.ensures.requests.count
     (λ place e. c.make_in_full.ensures.blamed place (c.in_err-run.was ∙ ap Err e)) (c.in_err-run.ensures.err faithful kinds given.agrees))
 
 pub returns-clause-changes : goal.returns-clause-changes
 returns-clause-changes g c = λ faithful.
-    let made = c.remember.ensures.back faithful in
+    let made = c.remember.ensures.requests.back faithful in
     let F = g.F.Folder in
     let task = c.args.task.now in
-    changes_chain (is_of_execution task) (F.contents c.args.folder.now) (F.contents c.make_in_full.new.folder) (F.contents c.remember.new.folder)
-    (changes_chain (is_of_execution task) (F.contents c.args.folder.now) (F.contents c.clear.new.folder) (F.contents c.make_in_full.new.folder)
-    (c.clear.ensures.changes (c.make_in_full.ensures.back made))
-    (outputs_in_execution task (F.contents c.clear.new.folder) (F.contents c.make_in_full.new.folder) (c.make_in_full.ensures.changes made)))
-    (record_in_execution task (F.contents c.make_in_full.new.folder) (F.contents c.remember.new.folder) (c.remember.ensures.changes faithful))
+    changes_chain (is_of_execution task) (F.device.contents c.args.folder.now) (F.device.contents c.make_in_full.new.folder) (F.device.contents c.remember.new.folder)
+    (changes_chain (is_of_execution task) (F.device.contents c.args.folder.now) (F.device.contents c.clear.new.folder) (F.device.contents c.make_in_full.new.folder)
+    (c.clear.ensures.changes (c.make_in_full.ensures.requests.back made))
+    (outputs_in_execution task (F.device.contents c.clear.new.folder) (F.device.contents c.make_in_full.new.folder) (c.make_in_full.ensures.changes made)))
+    (record_in_execution task (F.device.contents c.make_in_full.new.folder) (F.device.contents c.remember.new.folder) (c.remember.ensures.changes faithful))
 
 pub returns-clause-execution : goal.returns-clause-execution
 returns-clause-execution g c = λ faithful kinds registry_of options plan moment given at are_trees due.
-    let ran_known = c.remember.ensures.back faithful in
-    let then_known = c.make_in_full.ensures.back ran_known in
+    let ran_known = c.remember.ensures.requests.back faithful in
+    let then_known = c.make_in_full.ensures.requests.back ran_known in
     let F = g.F.Folder in
     let task = c.args.task.now in
     let start = c.args.folder.now in
@@ -114,29 +114,29 @@ returns-clause-execution g c = λ faithful kinds registry_of options plan moment
     let now = c.remember.new.folder in
     let memory = moment.world.memory in
     let cleared = c.clear.ensures.cleared then_known given.tears memory at.records (none_read (recalled memory task.path) c.args.was_read at.read) in
-    let is_cleared : IsCleared task memory (F.contents start) (F.contents then) =
-    subst (λ (r : Result (Unit {0}) Fault). HasCleared task c.args.was_read memory (F.may_leave start) (F.failures start) (F.contents start) r (F.failures then) (F.contents then)) c.in_ok-clear.was cleared in
-    let changed : ChangesOnly (is_of_execution task) (F.contents start) (F.contents ran) =
-    changes_chain (is_of_execution task) (F.contents start) (F.contents then) (F.contents ran)
+    let is_cleared : IsCleared task memory (F.device.contents start) (F.device.contents then) =
+    subst (λ (r : Result (Unit {0}) Fault). HasCleared task c.args.was_read memory (F.device.may_leave start) (F.device.failures start) (F.device.contents start) r (F.device.failures then) (F.device.contents then)) c.in_ok-clear.was cleared in
+    let changed : ChangesOnly (is_of_execution task) (F.device.contents start) (F.device.contents ran) =
+    changes_chain (is_of_execution task) (F.device.contents start) (F.device.contents then) (F.device.contents ran)
     (c.clear.ensures.changes then_known)
-    (outputs_in_execution task (F.contents then) (F.contents ran) (c.make_in_full.ensures.changes ran_known)) in
-    let reported = c.in_ok-changes.ensures c.args.inputs.trees (c.as_slice.ensures.value ∙ c.requires.digests) ∙ ap (added_of task.files) are_trees ∙ all_of (F.contents start).files task.files in
+    (outputs_in_execution task (F.device.contents then) (F.device.contents ran) (c.make_in_full.ensures.changes ran_known)) in
+    let reported = c.in_ok-changes.ensures c.args.inputs.trees (c.as_slice.ensures.value ∙ c.requires.digests) ∙ ap (added_of task.files) are_trees ∙ all_of (F.device.contents start).files task.files in
     let ended = c.in_ok-run.ensures.ok ran_known kinds given.agrees in
-    let exists : c.in_ok-run.run' ≡ run_now task c.args.inputs.prints.items (F.contents ran).files =
-    record_exists kinds task c.args.inputs.trees c.args.inputs.prints.items (F.contents ran).files c.in_ok-run.run' (c.in_ok-run.ensures.made kinds given.agrees) c.requires.digests
-    (λ held makes. made_exists kinds task c.args.inputs.trees c.in_ok-changes.changes is_cleared.taken.files c.make_in_full.new.lines (F.contents ran).files held is_cleared.is_folder.in_order
-    (subst (λ (rest : Files). EndsWell (run_input kinds task c.args.inputs.trees c.in_ok-changes.changes rest) c.make_in_full.new.lines (F.contents ran).files) is_cleared.emptied ended) makes) in
-    remembering kinds registry_of (F.may_leave start) options plan task c.args.was_read moment (F.contents start) (F.failures start) c.requires.buildable.not_own c.requires.separate at due
-    (F.may_leave then) c.make_in_full.new.lines (F.failures then) (F.contents then) (F.contents ran) c.args.inputs.trees c.in_ok-changes.changes
+    let exists : c.in_ok-run.run' ≡ run_now task c.args.inputs.prints.items (F.device.contents ran).files =
+    record_exists kinds task c.args.inputs.trees c.args.inputs.prints.items (F.device.contents ran).files c.in_ok-run.run' (c.in_ok-run.ensures.made kinds given.agrees) c.requires.digests
+    (λ held makes. made_exists kinds task c.args.inputs.trees c.in_ok-changes.changes is_cleared.taken.files c.make_in_full.new.lines (F.device.contents ran).files held is_cleared.is_folder.in_order
+    (subst (λ (rest : Files). EndsWell (run_input kinds task c.args.inputs.trees c.in_ok-changes.changes rest) c.make_in_full.new.lines (F.device.contents ran).files) is_cleared.emptied ended) makes) in
+    remembering kinds registry_of (F.device.may_leave start) options plan task c.args.was_read moment (F.device.contents start) (F.device.failures start) c.requires.buildable.not_own c.requires.separate at due
+    (F.device.may_leave then) c.make_in_full.new.lines (F.device.failures then) (F.device.contents then) (F.device.contents ran) c.args.inputs.trees c.in_ok-changes.changes
     c.clear.ensures.requests.tearing c.clear.ensures.requests.count is_cleared
     are_trees reported (c.make_in_full.ensures.changes ran_known) changed
-    ended c.args.inputs.prints.items (F.failures ran) (F.failures now) (F.contents now)
+    ended c.args.inputs.prints.items (F.device.failures ran) (F.device.failures now) (F.device.contents now)
     (c.requires.digests ∙ ap digests_in are_trees)
     c.make_in_full.ensures.requests.count c.remember.ensures.requests.count
-    (changes_chain (is_of_execution task) (F.contents start) (F.contents ran) (F.contents now) changed (record_in_execution task (F.contents ran) (F.contents now) (c.remember.ensures.changes faithful)))
-    (ap (λ (folder : Contents). folder.files) (outside_same task.path (F.contents ran) (F.contents now) (c.remember.ensures.changes faithful)))
+    (changes_chain (is_of_execution task) (F.device.contents start) (F.device.contents ran) (F.device.contents now) changed (record_in_execution task (F.device.contents ran) (F.device.contents now) (c.remember.ensures.changes faithful)))
+    (ap (λ (folder : Contents). folder.files) (outside_same task.path (F.device.contents ran) (F.device.contents now) (c.remember.ensures.changes faithful)))
     c.remember.result
-    (subst (λ (run : Record). IfErr c.remember.result (IsUnwritten task.path (Some (record_text task.path run)) (F.contents ran).files (F.failures ran) (F.failures now))) exists (c.remember.ensures.err faithful))
+    (subst (λ (run : Record). IfErr c.remember.result (IsUnwritten task.path (Some (record_text task.path run)) (F.device.contents ran).files (F.device.failures ran) (F.device.failures now))) exists (c.remember.ensures.err faithful))
     c.remember.ensures.outputs
     (λ m entry existed of. c.remember.ensures.exists faithful (observed_later _ _ (SameTearing-chain _ _ _ c.clear.ensures.requests.tearing c.make_in_full.ensures.requests.tearing) given.tears) m entry existed
     (subst (λ (run : Record). IsSaidOf run entry) (sym exists) of))

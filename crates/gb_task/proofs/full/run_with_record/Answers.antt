@@ -12,7 +12,6 @@ use Rattle.gb_task.proofs.Recorded.{assumed_later}
 use Rattle.gb_task.proofs.Whole.{reading_failed}
 use Rattle.gb_folder.proofs.Asked.{requests_nothing, requests_then}
 use Rattle.gb_label.proofs.ReadingAnswering.{inputs_longer}
-use Rattle.gb_task.proofs.Ran.{all_answered}
 use Rattle.gb_task.proofs.full.run_with_record.Goals as goal
 
 pub returns-in_err-inputs-clause-execution : goal.returns-in_err-inputs-clause-execution
@@ -22,10 +21,10 @@ returns-in_err-inputs-clause-execution g c = λ faithful kinds registry_of optio
     let start = c.args.folder.now in
     let now = c.complete_inputs.new.folder in
     let p = err_from_is_err_and c.from_residual.result c.from_residual.ensures.1 in
-    at_err (λ (r : Result (Unit {0}) Fault). HasExecuted (setting_with kinds registry_of (F.may_leave start)) options plan task moment (report_of task r c.args.lines.now) (F.contents start) (F.failures now) (F.contents now))
+    at_err (λ (r : Result (Unit {0}) Fault). HasExecuted (setting_with kinds registry_of (F.device.may_leave start)) options plan task moment (report_of task r c.args.lines.now) (F.device.contents start) (F.device.failures now) (F.device.contents now))
     c.from_residual.result p.0 c.in_err-inputs.field-0.0 p.1 p.2
-    (reading_failed kinds registry_of (F.may_leave start) options plan task c.args.was_read moment (F.contents start) (F.failures start) c.requires.buildable.not_own c.requires.separate at due
-    c.in_err-inputs.field-0.0 c.args.lines.now (F.failures now) (F.contents now) c.requires.no_lines (c.complete_inputs.ensures.same faithful) (c.in_err-inputs.ensures.err faithful read)
+    (reading_failed kinds registry_of (F.device.may_leave start) options plan task c.args.was_read moment (F.device.contents start) (F.device.failures start) c.requires.buildable.not_own c.requires.separate at due
+    c.in_err-inputs.field-0.0 c.args.lines.now (F.device.failures now) (F.device.contents now) c.requires.no_lines (c.complete_inputs.ensures.reads.same faithful) (c.in_err-inputs.ensures.err faithful read)
     (λ place e. ap (λ b. b || is_output_of task place) (c.complete_inputs.ensures.blamed place (c.in_err-inputs.was ∙ ap Err e))))
 
 pub returns-clause-execution : goal.returns-clause-execution
@@ -36,19 +35,19 @@ returns-clause-execution g c = λ faithful kinds registry_of options plan moment
     let start = c.args.folder.now in
     let then = c.complete_inputs.new.folder in
     let now = c.run_on.new.folder in
-    let same : F.contents then ≡ F.contents start = c.complete_inputs.ensures.same completed in
-    let later : Moment = record { world = moment.world; outcomes = moment.outcomes; failures = F.failures then } in
-    let came = comes_later task c.args.was_read (F.contents start) (F.failures start) moment (F.contents then) (F.failures then) same at in
-    turned_before kinds registry_of (F.may_leave start) (F.may_leave then) c.complete_inputs.ensures.requests.tearing options plan task moment (F.failures then)
-    (subst (λ (n : ℕ). n ≤ F.failures then) (sym at.failures) c.complete_inputs.ensures.requests.count) (report_of task c.run_on.result c.run_on.new.lines) (F.contents start) (F.failures now) (F.contents now) c.run_on.ensures.count
-    (subst (λ (folder : Contents). HasExecuted (setting_with kinds registry_of (F.may_leave then)) options plan task later (report_of task c.run_on.result c.run_on.new.lines) folder (F.failures now) (F.contents now)) same
-    (c.run_on.ensures.execution faithful kinds registry_of options plan later (assumed_later _ _ c.complete_inputs.ensures.requests.tearing given) came
+    let same : F.device.contents then ≡ F.device.contents start = c.complete_inputs.ensures.reads.same completed in
+    let later : Moment = record { world = moment.world; outcomes = moment.outcomes; failures = F.device.failures then } in
+    let came = comes_later task c.args.was_read (F.device.contents start) (F.device.failures start) moment (F.device.contents then) (F.device.failures then) same at in
+    turned_before kinds registry_of (F.device.may_leave start) (F.device.may_leave then) c.complete_inputs.ensures.reads.requests.tearing options plan task moment (F.device.failures then)
+    (subst (λ (n : ℕ). n ≤ F.device.failures then) (sym at.failures) c.complete_inputs.ensures.reads.requests.count) (report_of task c.run_on.result c.run_on.new.lines) (F.device.contents start) (F.device.failures now) (F.device.contents now) c.run_on.ensures.count
+    (subst (λ (folder : Contents). HasExecuted (setting_with kinds registry_of (F.device.may_leave then)) options plan task later (report_of task c.run_on.result c.run_on.new.lines) folder (F.device.failures now) (F.device.contents now)) same
+    (c.run_on.ensures.execution faithful kinds registry_of options plan later (assumed_later _ _ c.complete_inputs.ensures.reads.requests.tearing given) came
     (c.in_ok-inputs.ensures.trees completed read ∙ ap (λ (folder : Contents). trees_of task folder.files) (sym same)) due))
 
 pub returns-in_err-inputs-clause-ran : goal.returns-in_err-inputs-clause-ran
 returns-in_err-inputs-clause-ran g c = λ first before inputs.
     let p = err_from_is_err_and c.from_residual.result c.from_residual.ensures.1 in
-    inl (requests_then before c.complete_inputs.ensures.requests, c.requires.no_lines, p.0, p.1)
+    inl (requests_then before c.complete_inputs.ensures.reads.requests, c.requires.no_lines, p.0, p.1)
 
 pub returns-clause-ran : goal.returns-clause-ran
 returns-clause-ran g c = λ first before inputs.
@@ -58,18 +57,18 @@ returns-clause-ran g c = λ first before inputs.
       c.in_ok-inputs.inputs.trees,
       c.complete_inputs.new.folder,
       record {
-        requests = requests_then before c.complete_inputs.ensures.requests;
+        requests = requests_then before c.complete_inputs.ensures.reads.requests;
         inputs = c.in_ok-inputs.ensures.answered first before inputs;
         named = c.in_ok-inputs.ensures.named;
         sourced = (
           c.args.inputs.items,
-          inputs_longer (requests_nothing first) c.complete_inputs.ensures.requests c.args.task.now c.args.inputs.items inputs,
+          inputs_longer (requests_nothing first) c.complete_inputs.ensures.reads.requests c.args.task.now c.args.inputs.items inputs,
           c.requires.source,
         );
       },
       (
         ran.0,
-        all_answered F.failures F.may_leave F.allowed F.faithful F.contents F.device g.met.F.Folder.said ran.0 c.complete_inputs.new.folder c.run_on.new.folder ran.1,
+        ran.1,
         ran.2,
       ),
     )

@@ -16,36 +16,36 @@ pub returns-in-Ok-clause-changes : goal.returns-in-Ok-clause-changes
 returns-in-Ok-clause-changes g c = λ faithful.
     let F = g.F.Folder in
     let place = record_place c.args.task.now.path in
-    changes_with (is_at place) (F.contents c.args.folder.now) (F.contents c.store_record.new.folder) place (record_text c.args.task.now.path c.args.run.now) (c.in-Ok.ensures.written faithful) (at_itself place)
+    changes_with (is_at place) (F.device.contents c.args.folder.now) (F.device.contents c.store_record.new.folder) place (record_text c.args.task.now.path c.args.run.now) (c.in-Ok.ensures.written faithful) (at_itself place)
 
 pub returns-in-Ok-clause-exists : goal.returns-in-Ok-clause-exists
 returns-in-Ok-clause-exists g c = λ faithful observed memory entry existed of.
     let task = c.args.task.now in
     let some : is_empty task.outputs ≡ false = search rules in
-    with_outputs_exists task entry memory (g.F.Folder.contents c.store_record.new.folder).files some (c.in-Ok.ensures.exists faithful observed memory entry existed of)
+    with_outputs_exists task entry memory (g.F.Folder.device.contents c.store_record.new.folder).files some (c.in-Ok.ensures.exists faithful observed memory entry existed of)
 
 pub returns-in-Err-clause-changes : goal.returns-in-Err-clause-changes
 returns-in-Err-clause-changes g c = λ faithful.
     let F = g.F.Folder in
     let path = c.args.task.now.path in
-    changes_unwritten (F.may_leave c.args.folder.now) path (Some (record_text path c.args.run.now)) _ _ (F.contents c.args.folder.now) (F.contents c.store_record.new.folder)
+    changes_unwritten (F.device.may_leave c.args.folder.now) path (Some (record_text path c.args.run.now)) _ _ (F.device.contents c.args.folder.now) (F.device.contents c.store_record.new.folder)
     c.in-Err.unwritten (c.in-Err.ensures.err faithful)
 
 pub returns-in-Err-clause-err : goal.returns-in-Err-clause-err
 returns-in-Err-clause-err g c = λ faithful.
     let F = g.F.Folder in
     let path = c.args.task.now.path in
-    subst (λ (fault : Fault). IsUnwritten path (Some (record_text path c.args.run.now)) (F.contents c.args.folder.now).files (F.failures c.args.folder.now) (F.failures c.store_record.new.folder) fault)
+    subst (λ (fault : Fault). IsUnwritten path (Some (record_text path c.args.run.now)) (F.device.contents c.args.folder.now).files (F.device.failures c.args.folder.now) (F.device.failures c.store_record.new.folder) fault)
     (sym c.fault.ensures)
-    (why_unwritten (F.may_leave c.args.folder.now) path (Some (record_text path c.args.run.now)) _ _ (F.contents c.args.folder.now) (F.contents c.store_record.new.folder) c.in-Err.unwritten
+    (why_unwritten (F.device.may_leave c.args.folder.now) path (Some (record_text path c.args.run.now)) _ _ (F.device.contents c.args.folder.now) (F.device.contents c.store_record.new.folder) c.in-Err.unwritten
     (c.in-Err.ensures.err faithful))
 
 pub returns-in-Err-clause-exists : goal.returns-in-Err-clause-exists
 returns-in-Err-clause-exists g c = λ faithful observed memory entry existed of.
     let F = g.F.Folder in
     let task = c.args.task.now in
-    subst (λ (fault : Fault). IsRemembered task entry memory (Err fault) (F.contents c.store_record.new.folder).files) (sym c.fault.ensures)
-    (remembered_reported task entry memory c.in-Err.unwritten (F.contents c.store_record.new.folder).files (c.in-Err.ensures.exists faithful observed memory entry existed of))
+    subst (λ (fault : Fault). IsRemembered task entry memory (Err fault) (F.device.contents c.store_record.new.folder).files) (sym c.fault.ensures)
+    (remembered_reported task entry memory c.in-Err.unwritten (F.device.contents c.store_record.new.folder).files (c.in-Err.ensures.exists faithful observed memory entry existed of))
 
 pub returns-then-is_empty-clause-calls : goal.returns-then-is_empty-clause-calls
 returns-then-is_empty-clause-calls g c =

@@ -26,11 +26,11 @@ returns-clause-recheck g c =
 
 pub returns-clause-as_before : goal.returns-clause-as_before
 returns-clause-as_before g c = λ faithful kinds world at inputs_observed outputs_observed goes.
-    let completed = c.complete_outputs.ensures.back faithful in
+    let completed = c.complete_outputs.ensures.reads.requests.back faithful in
     let F = g.F.Folder in
     let task = c.args.task.now in
-    let start : Contents = F.contents c.args.folder.now in
-    let same : F.contents c.complete_inputs.new.folder ≡ start = c.complete_inputs.ensures.same completed in
+    let start : Contents = F.device.contents c.args.folder.now in
+    let same : F.device.contents c.complete_inputs.new.folder ≡ start = c.complete_inputs.ensures.reads.same completed in
     subst (IsAsBefore kinds c.args.options task start.files world) (sym c.recheck_by.ensures)
     (as_before c.args.options task c.args.last.now c.in_ok-decision.field-0.present c.in_ok-decision.field-0.decision _ _ c.in_ok-trees.field-0.prints.items c.in_ok-observed.field-0.prints.items
     c.in_ok-trees.ensures.named c.in_ok-trees.ensures.digests c.in_ok-observed.ensures.formed c.in_ok-observed.ensures.digests c.in_ok-decision.ensures.present c.in_ok-decision.ensures.decides
@@ -46,8 +46,8 @@ returns-clause-answered g c = λ first before inputs outputs.
     let task = c.args.task.now in
     let start = c.args.folder.now in
     let mid = c.complete_inputs.new.folder in
-    subst (WasReadRecheck F.failures F.may_leave F.allowed first c.complete_outputs.new.folder task) (sym c.recheck_by.ensures)
-    (read_recheck F.failures F.may_leave F.allowed first c.complete_outputs.new.folder task c.in_ok-decision.field-0.decision _ _
-    (trees_longer (requests_nothing first) c.complete_outputs.ensures.requests task c.in_ok-trees.field-0.trees (c.in_ok-trees.ensures.answered first before inputs))
-    (c.in_ok-observed.ensures.answered first (requests_then before c.complete_inputs.ensures.requests)
-    (outputs_longer (requests_nothing first) c.complete_inputs.ensures.requests task c.args.observed.outputs.items outputs)))
+    subst (WasReadRecheck F.device first c.complete_outputs.new.folder task) (sym c.recheck_by.ensures)
+    (read_recheck F.device first c.complete_outputs.new.folder task c.in_ok-decision.field-0.decision _ _
+    (trees_longer (requests_nothing first) c.complete_outputs.ensures.reads.requests task c.in_ok-trees.field-0.trees (c.in_ok-trees.ensures.answered first before inputs))
+    (c.in_ok-observed.ensures.answered first (requests_then before c.complete_inputs.ensures.reads.requests)
+    (outputs_longer (requests_nothing first) c.complete_inputs.ensures.reads.requests task c.args.observed.outputs.items outputs)))

@@ -19,10 +19,10 @@ returns-clause-execution g c = λ faithful kinds registry_of options plan moment
     let now = c.clear-cleared.new.folder in
     let allowed = c.clear-cleared.ensures in
     let acts : not c.is_empty-has_actions.result ≡ not (is_empty task.actions) = search rules in
-    subst (λ (report : TaskReport). HasExecuted (setting_with kinds registry_of (F.may_leave start)) options plan task moment report (F.contents start) (F.failures now) (F.contents now))
+    subst (λ (report : TaskReport). HasExecuted (setting_with kinds registry_of (F.device.may_leave start)) options plan task moment report (F.device.contents start) (F.device.failures now) (F.device.contents now))
     (sym (same_report _ _ _ _ _ _ _ _ c.requires.path c.outcome_of.ensures acts c.new.ensures))
-    (cleared_execution kinds registry_of (F.may_leave start) options plan task c.args.was_read moment (F.contents start) (F.failures start) c.requires.not_own at case
-    (F.failures start) (F.failures now) (F.contents now) (omega arith) allowed.requests.count (allowed.changes faithful) c.clear-cleared.result allowed.blamed
+    (cleared_execution kinds registry_of (F.device.may_leave start) options plan task c.args.was_read moment (F.device.contents start) (F.device.failures start) c.requires.not_own at case
+    (F.device.failures start) (F.device.failures now) (F.device.contents now) (omega arith) allowed.requests.count (allowed.changes faithful) c.clear-cleared.result allowed.blamed
     (allowed.cleared faithful observed moment.world.memory at.records (none_read (recalled moment.world.memory task.path) c.args.was_read at.read)))
 
 pub returns-clause-calls : goal.returns-clause-calls

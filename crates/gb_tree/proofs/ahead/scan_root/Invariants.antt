@@ -9,14 +9,14 @@ use Rattle.gb_tree.proofs.ahead.scan_root.Given as goal
 abbrev pub invariant-loop-place : goal.invariant-loop-place
 invariant-loop-place g l =
     let F = g.F.Folder in
-    let old = (F.contents l.fn.folder).files in
+    let old = (F.device.contents l.fn.folder).files in
     let before = l.fn.files.items ++ waiting_files l.fn.waiting in
     let read = l.files.items ++ waiting_files l.waiting in
     record {
-      requests : Requests F.failures F.may_leave F.allowed no_change l.fn.folder l.folder;
-      back : F.faithful l.folder → F.faithful l.fn.folder;
-      same : F.faithful l.folder → F.contents l.folder ≡ F.contents l.fn.folder;
-      answered : (first : _) → Requests F.failures F.may_leave F.allowed no_change first l.fn.folder
-          → WereObserved F.failures F.may_leave F.allowed first l.fn.folder before → WereObserved F.failures F.may_leave F.allowed first l.folder read;
-      each : F.faithful l.folder → AllByRecursion (IsObservedIn old) before → AllByRecursion (IsObservedIn old) read;
+      requests : Requests F.device no_change l.fn.folder l.folder;
+      back : F.device.faithful l.folder → F.device.faithful l.fn.folder;
+      same : F.device.faithful l.folder → F.device.contents l.folder ≡ F.device.contents l.fn.folder;
+      answered : (first : _) → Requests F.device no_change first l.fn.folder
+          → WereObserved F.device first l.fn.folder before → WereObserved F.device first l.folder read;
+      each : F.device.faithful l.folder → AllByRecursion (IsObservedIn old) before → AllByRecursion (IsObservedIn old) read;
     }

@@ -30,14 +30,14 @@ returns-in_err-entries-clause-blame g c =
     let p = err_from_is_err_and c.from_residual-in_err-entries.result c.from_residual-in_err-entries.ensures.1 in
     let starts = (starts_in c.args.include.now c.as_slice.result.now) in
     let roots = c.args.roots.now in
-    blamed_before (λ at. IsTrue (is_under_any (places_of starts) at)) (λ at. IsTrue (is_under_any roots at)) _ _ _ _ c.in_err-entries.field-0.0 p.0 (omega arith) c.in_err-entries.ensures.requests.count p.1 p.2
+    blamed_before (λ at. IsTrue (is_under_any (places_of starts) at)) (λ at. IsTrue (is_under_any roots at)) _ _ _ _ c.in_err-entries.field-0.0 p.0 (omega arith) c.in_err-entries.ensures.reads.requests.count p.1 p.2
     (of_roots c.args.include.now roots starts (these c.args.include.now c.args.roots.now c.as_slice.result.now (c.as_slice.ensures.value ∙ c.in_ok-roots.ensures))) c.in_err-entries.ensures.blame
 
 pub returns-in_err-entries-clause-err : goal.returns-in_err-entries-clause-err
 returns-in_err-entries-clause-err g c = λ faithful.
     let p = err_from_is_err_and c.from_residual-in_err-entries.result c.from_residual-in_err-entries.ensures.1 in
-    let failures = g.F.Folder.failures in
-    let old = g.F.Folder.contents c.args.folder.now in
+    let failures = g.F.Folder.device.failures in
+    let old = g.F.Folder.device.contents c.args.folder.now in
     let name = c.args.name.now in
     let roots = c.args.roots.now in
     let include = c.args.include.now in
@@ -48,8 +48,8 @@ returns-in_err-entries-clause-err g c = λ faithful.
 pub returns-in_err-check_doubled-clause-err : goal.returns-in_err-check_doubled-clause-err
 returns-in_err-check_doubled-clause-err g c = λ faithful.
     let p = err_from_is_err_and c.from_residual-in_err-check_doubled.result c.from_residual-in_err-check_doubled.ensures.1 in
-    let failures = g.F.Folder.failures in
-    let old = g.F.Folder.contents c.args.folder.now in
+    let failures = g.F.Folder.device.failures in
+    let old = g.F.Folder.device.contents c.args.folder.now in
     let name = c.args.name.now in
     let roots = c.args.roots.now in
     let include = c.args.include.now in
@@ -84,7 +84,7 @@ returns-clause-listed g c =
     let same = these c.args.include.now c.args.roots.now c.as_slice.result.now (c.as_slice.ensures.value ∙ c.in_ok-roots.ensures) in
     record {
       listings = reported.0;
-      listed = subst (λ (starts : List (Place × Place)). AllZip (IsStartListed g.F.Folder.failures g.F.Folder.may_leave g.F.Folder.allowed c.args.folder.now c.found_few.new.folder) starts reported.0) same reported.1;
+      listed = subst (λ (starts : List (Place × Place)). AllZip (IsStartListed g.F.Folder.device c.args.folder.now c.found_few.new.folder) starts reported.0) same reported.1;
       are = c.sort.ensures.sorted ∙ ap in_order (reported.2 ∙ ap (λ (starts : List (Place × Place)). listed_in naming include exclude (zip starts reported.0)) same);
       few = few_in_order c.args.name.now c.in_ok-entries.entries.items _ c.in_ok-entries.ensures.few c.sort.ensures.sorted;
       single = ap (λ (es : Entries). doubled (paths_of es)) (sym c.as_slice-2.ensures.value) ∙ c.in_ok-check_doubled.ensures.fit;
@@ -93,10 +93,10 @@ returns-clause-listed g c =
 pub returns-clause-entries : goal.returns-clause-entries
 returns-clause-entries g c = λ faithful.
     c.sort.ensures.sorted ∙ ap in_order (c.in_ok-entries.ensures.found faithful)
-    ∙ in_their_order c.args.name.now c.args.naming c.args.roots.now c.args.include.now c.args.exclude.now (g.F.Folder.contents c.args.folder.now) (starts_in c.args.include.now c.as_slice.result.now) (these c.args.include.now c.args.roots.now c.as_slice.result.now (c.as_slice.ensures.value ∙ c.in_ok-roots.ensures))
+    ∙ in_their_order c.args.name.now c.args.naming c.args.roots.now c.args.include.now c.args.exclude.now (g.F.Folder.device.contents c.args.folder.now) (starts_in c.args.include.now c.as_slice.result.now) (these c.args.include.now c.args.roots.now c.as_slice.result.now (c.as_slice.ensures.value ∙ c.in_ok-roots.ensures))
 
 pub returns-clause-fit : goal.returns-clause-fit
 returns-clause-fit g c = λ faithful.
-    only_doubled c.args.name.now c.args.naming c.args.roots.now c.args.include.now c.args.exclude.now (g.F.Folder.contents c.args.folder.now) (starts_in c.args.include.now c.as_slice.result.now) (these c.args.include.now c.args.roots.now c.as_slice.result.now (c.as_slice.ensures.value ∙ c.in_ok-roots.ensures))
+    only_doubled c.args.name.now c.args.naming c.args.roots.now c.args.include.now c.args.exclude.now (g.F.Folder.device.contents c.args.folder.now) (starts_in c.args.include.now c.as_slice.result.now) (these c.args.include.now c.args.roots.now c.as_slice.result.now (c.as_slice.ensures.value ∙ c.in_ok-roots.ensures))
     c.in_ok-entries.entries.items c.as_slice-2.result.now (c.in_ok-entries.ensures.none_special faithful) (c.in_ok-entries.ensures.found faithful) c.in_ok-entries.ensures.few (c.as_slice-2.ensures.value ∙ c.sort.ensures.sorted)
     ∙ ap (map (faults.DuplicateInput c.args.name.now)) c.in_ok-check_doubled.ensures.fit

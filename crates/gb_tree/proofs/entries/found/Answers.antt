@@ -32,16 +32,16 @@ add_entries-requires-clause-under g c =
 
 pub returns-in_err-places-clause-special : goal.returns-in_err-places-clause-special
 returns-in_err-places-clause-special g c = λ faithful.
-    let before = c.listed.ensures.back faithful in
+    let before = c.listed.ensures.reads.requests.back faithful in
     let p = err_from_is_err_and c.from_residual.result c.from_residual.ensures.1 in
-    let failures = g.F.Folder.failures in
-    let old = g.F.Folder.contents c.args.folder.now in
+    let failures = g.F.Folder.device.failures in
+    let old = g.F.Folder.device.contents c.args.folder.now in
     let starts = c.args.starts.now in
     let i = c.loop-root.root-index in
     let start = c.loop-root-item.result in
     let rest = filter (is_special_under old) (places_of (drop (i + 1) starts)) in
     at_err (λ r. IfErr r (λ fault. IsRefused (failures c.args.folder.now) (failures c.listed.new.folder) (special_roots old (places_of starts)) fault)) c.from_residual.result p.0 c.in_err-places.field-0.0 p.1 p.2 (elim (c.in_err-places.ensures.special faithful) [
-      | inl machine ↦ inl (machine_before _ _ _ _ c.loop-root.invariant.requests.count c.in_err-places.ensures.requests.count machine)
+      | inl machine ↦ inl (machine_before _ _ _ _ c.loop-root.invariant.requests.count c.in_err-places.ensures.reads.requests.count machine)
       | inr special ↦ inr (
           sym (c.loop-root.invariant.special before)
           ∙ step_here (λ ss. first_of (special_roots old (places_of ss))) starts i start c.loop-root-test.true c.loop-root-item.is
@@ -55,14 +55,14 @@ returns-in_err-places-clause-blame g c =
     let p = err_from_is_err_and c.from_residual.result c.from_residual.ensures.1 in
     let starts = c.args.starts.now in
     let start = c.loop-root-item.result in
-    blamed_before (λ at. at ≡ start.1) (λ at. IsTrue (is_under_any (places_of starts) at)) _ _ _ _ c.in_err-places.field-0.0 p.0 c.loop-root.invariant.requests.count c.in_err-places.ensures.requests.count p.1 p.2
+    blamed_before (λ at. at ≡ start.1) (λ at. IsTrue (is_under_any (places_of starts) at)) _ _ _ _ c.in_err-places.field-0.0 p.0 c.loop-root.invariant.requests.count c.in_err-places.ensures.reads.requests.count p.1 p.2
     (λ at is. under_start starts c.loop-root.root-index start at c.loop-root-test.true c.loop-root-item.is (subst (λ (place : Place). IsTrue (is_under place start.1)) (sym is) (own_place start.1)))
     c.in_err-places.ensures.blame
 
 pub loop-root-preserved : goal.loop-root-preserved
 loop-root-preserved g c =
-    let back = c.listed.ensures.back in
-    let old = g.F.Folder.contents c.args.folder.now in
+    let back = c.listed.ensures.reads.requests.back in
+    let old = g.F.Folder.device.contents c.args.folder.now in
     let was = c.loop-root.invariant in
     let naming = c.args.naming in
     let include = c.args.include.now in
@@ -78,15 +78,15 @@ loop-root-preserved g c =
     let within = c.loop-root-test.true in
     let is = c.loop-root-item.is in
     record {
-      requests = requests_then was.requests c.in_ok-places.ensures.requests;
+      requests = requests_then was.requests c.in_ok-places.ensures.reads.requests;
       few = c.in_ok-add_entries.ensures.few;
       under = taken_beneath naming include exclude starts i start c.in_ok-places.places.items places kept c.add_entries.new.entries.items within is c.as_slice.ensures.value c.in_ok-places.ensures.under c.in_ok-add_entries.ensures.entries was.under;
-      answered = one_start_more naming include exclude starts i start places kept c.add_entries.new.entries.items within is was.requests c.in_ok-places.ensures.requests
-          (subst (λ (ps : List Place). WereListed g.F.Folder.failures g.F.Folder.may_leave g.F.Folder.allowed c.loop-root.folder c.listed.new.folder start.1 ps)
+      answered = one_start_more naming include exclude starts i start places kept c.add_entries.new.entries.items within is was.requests c.in_ok-places.ensures.reads.requests
+          (subst (λ (ps : List Place). WereListed g.F.Folder.device c.loop-root.folder c.listed.new.folder start.1 ps)
           (sym c.as_slice.ensures.value) c.in_ok-places.ensures.answered)
           c.in_ok-add_entries.ensures.entries was.answered;
       back = λ faithful. was.back (back faithful);
-      same = λ faithful. c.in_ok-places.ensures.same faithful ∙ was.same (back faithful);
+      same = λ faithful. c.in_ok-places.ensures.reads.same faithful ∙ was.same (back faithful);
       found = λ faithful.
           let listed : places ≡ places_under old.files start.1 = c.as_slice.ensures.value ∙ c.in_ok-places.ensures.listed faithful ∙ ap (λ (now : Contents). places_under now.files start.1) (was.same (back faithful)) in
           ap (λ (es : Entries). held (es ++ rest)) c.in_ok-add_entries.ensures.entries
@@ -103,7 +103,7 @@ loop-root-preserved g c =
 
 pub returns-clause-answered : goal.returns-clause-answered
 returns-clause-answered g c =
-    let listed = IsStartListed g.F.Folder.failures g.F.Folder.may_leave g.F.Folder.allowed c.args.folder.now c.loop-root.folder in
+    let listed = IsStartListed g.F.Folder.device c.args.folder.now c.loop-root.folder in
     let entries : Entries = c.loop-root.entries.items in
     subst (λ (starts : List (Place × Place)). (listings : List (List Place)) × AllZip listed starts listings
     × (entries ≡ held (listed_in c.args.naming c.args.include.now c.args.exclude.now (zip starts listings))))
@@ -111,6 +111,6 @@ returns-clause-answered g c =
 
 pub returns-clause-found : goal.returns-clause-found
 returns-clause-found g c = λ faithful.
-    let all : List (Place × Place) → Entries = found_from c.args.naming c.args.include.now c.args.exclude.now (g.F.Folder.contents c.args.folder.now).files in
+    let all : List (Place × Place) → Entries = found_from c.args.naming c.args.include.now c.args.exclude.now (g.F.Folder.device.contents c.args.folder.now).files in
     let end = c.loop-root-test.false in
     held_done all c.loop-root.entries.items (all c.args.starts.now) c.args.starts.now c.loop-root.root-index refl (omega (arith, end)) c.loop-root.invariant.few (c.loop-root.invariant.found faithful)

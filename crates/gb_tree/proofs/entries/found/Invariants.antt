@@ -11,17 +11,17 @@ use Rattle.gb_tree.proofs.entries.found.Given as goal
 
 abbrev pub invariant-loop-root : goal.invariant-loop-root
 invariant-loop-root g l =
-    let contents = g.F.Folder.contents in
+    let contents = g.F.Folder.device.contents in
     let old = contents l.fn.folder in
     record {
-      requests : Requests g.F.Folder.failures g.F.Folder.may_leave g.F.Folder.allowed no_change l.fn.folder l.folder;
+      requests : Requests g.F.Folder.device no_change l.fn.folder l.folder;
       few : length l.entries.items ≤ max_files + 1;
       under : AllByRecursion (λ entry. IsTrue (is_under_any (places_of l.starts) entry.1)) l.entries.items;
       answered : (listings : List (List Place))
-          × AllZip (IsStartListed g.F.Folder.failures g.F.Folder.may_leave g.F.Folder.allowed l.fn.folder l.folder) (take l.root-index l.starts) listings
+          × AllZip (IsStartListed g.F.Folder.device l.fn.folder l.folder) (take l.root-index l.starts) listings
           × (l.entries.items ≡ held (listed_in l.naming l.include l.exclude (zip (take l.root-index l.starts) listings)));
-      back : g.F.Folder.faithful l.folder → g.F.Folder.faithful l.fn.folder;
-      same : g.F.Folder.faithful l.folder → contents l.folder ≡ old;
-      found : g.F.Folder.faithful l.folder → held (l.entries.items ++ found_from l.naming l.include l.exclude old.files (drop l.root-index l.starts)) ≡ held (found_from l.naming l.include l.exclude old.files l.starts);
-      special : g.F.Folder.faithful l.folder → first_of (special_roots old (places_of (drop l.root-index l.starts))) ≡ first_of (special_roots old (places_of l.starts));
+      back : g.F.Folder.device.faithful l.folder → g.F.Folder.device.faithful l.fn.folder;
+      same : g.F.Folder.device.faithful l.folder → contents l.folder ≡ old;
+      found : g.F.Folder.device.faithful l.folder → held (l.entries.items ++ found_from l.naming l.include l.exclude old.files (drop l.root-index l.starts)) ≡ held (found_from l.naming l.include l.exclude old.files l.starts);
+      special : g.F.Folder.device.faithful l.folder → first_of (special_roots old (places_of (drop l.root-index l.starts))) ≡ first_of (special_roots old (places_of l.starts));
     }

@@ -31,16 +31,16 @@ returns-in_err-here-clause-blame g c =
     let root = c.root-item.result in
     let starts = c.as_slice.result.now in
     let these : starts ≡ starts_in include (root ∷ []) = c.as_slice.ensures.value ∙ c.in_ok-starts.ensures.starts in
-    blamed_before (λ at. IsTrue (is_under_any (places_of starts) at)) (λ at. IsTrue (is_under_any (places_of (starts_in include roots)) at)) _ _ _ _ c.in_err-here.field-0.0 p.0 c.loop-root.invariant.requests.count c.in_err-here.ensures.requests.count p.1 p.2
+    blamed_before (λ at. IsTrue (is_under_any (places_of starts) at)) (λ at. IsTrue (is_under_any (places_of (starts_in include roots)) at)) _ _ _ _ c.in_err-here.field-0.0 p.0 c.loop-root.invariant.requests.count c.in_err-here.ensures.reads.requests.count p.1 p.2
     (λ at h. under_all include roots c.loop-root.root-index root at c.loop-root-test.true c.root-item.is (subst (λ (starts : List (Place × Place)). IsTrue (is_under_any (places_of starts) at)) these h))
     c.in_err-here.ensures.blame
 
 pub returns-in_err-here-clause-special : goal.returns-in_err-here-clause-special
 returns-in_err-here-clause-special g c = λ faithful.
-    let before = c.found.ensures.back faithful in
+    let before = c.found.ensures.reads.requests.back faithful in
     let p = err_from_is_err_and c.from_residual-in_err-here.result c.from_residual-in_err-here.ensures.1 in
-    let failures = g.F.Folder.failures in
-    let contents = g.F.Folder.contents in
+    let failures = g.F.Folder.device.failures in
+    let contents = g.F.Folder.device.contents in
     let old = contents c.args.folder.now in
     let include = c.args.include.now in
     let roots = c.args.roots.now in
@@ -51,14 +51,14 @@ returns-in_err-here-clause-special g c = λ faithful.
     let here : IsRefused (failures c.loop-root.folder) (failures c.found.new.folder) (special_roots (contents c.loop-root.folder) (places_of starts)) fault = c.in_err-here.ensures.special faithful in
     at_err (λ r. IfErr r (λ fault. IsRefused (failures c.args.folder.now) (failures c.found.new.folder) (special_roots old (places_of (starts_in include roots))) fault)) c.from_residual-in_err-here.result p.0 c.in_err-here.field-0.0 p.1 p.2
     (refused_here (failures c.args.folder.now) (failures c.loop-root.folder) (failures c.found.new.folder) old include roots c.loop-root.root-index root fault c.loop-root-test.true c.root-item.is
-    c.loop-root.invariant.requests.count c.in_err-here.ensures.requests.count (c.loop-root.invariant.none_special before)
+    c.loop-root.invariant.requests.count c.in_err-here.ensures.reads.requests.count (c.loop-root.invariant.none_special before)
     (subst (λ (now : Contents). IsRefused (failures c.loop-root.folder) (failures c.found.new.folder) (special_roots now (places_of (starts_in include (root ∷ [])))) fault) (c.loop-root.invariant.same before)
     (subst (λ (starts : List (Place × Place)). IsRefused (failures c.loop-root.folder) (failures c.found.new.folder) (special_roots (contents c.loop-root.folder) (places_of starts)) fault) these here)))
 
 pub loop-root-preserved : goal.loop-root-preserved
 loop-root-preserved g c =
-    let back = c.found.ensures.back in
-    let contents = g.F.Folder.contents in
+    let back = c.found.ensures.reads.requests.back in
+    let contents = g.F.Folder.device.contents in
     let old = contents c.args.folder.now in
     let was = c.loop-root.invariant in
     let naming = c.args.naming in
@@ -74,7 +74,7 @@ loop-root-preserved g c =
     let kept : Entries = c.loop-root.entries.items in
     let here : Entries = c.in_ok-here.here.items in
     let taken : c.append_held.new.entries.items ≡ held (kept ++ here) = c.in_ok-append_held.ensures in
-    let listed = IsStartListed g.F.Folder.failures g.F.Folder.may_leave g.F.Folder.allowed c.loop-root.folder c.found.new.folder in
+    let listed = IsStartListed g.F.Folder.device c.loop-root.folder c.found.new.folder in
     let answered = c.in_ok-here.ensures.answered in
     let listings : List (List Place) = answered.0 in
     let reported : here ≡ held (listed_in naming include exclude (zip (starts_in include (root ∷ [])) listings)) =
@@ -82,10 +82,10 @@ loop-root-preserved g c =
     ∙ ap (λ patterns. held (listed_in naming patterns c.in_ok-excluded.excluded (zip starts listings))) c.in_ok-included.ensures
     ∙ ap (λ patterns. held (listed_in naming include patterns (zip starts listings))) c.in_ok-excluded.ensures
     ∙ ap (λ (starts : List (Place × Place)). held (listed_in naming include exclude (zip starts listings))) these in
-    let all = one_root_more naming include exclude roots i root kept here within is was.requests c.in_ok-here.ensures.requests was.answered
+    let all = one_root_more naming include exclude roots i root kept here within is was.requests c.in_ok-here.ensures.reads.requests was.answered
     (listings, subst (λ (starts : List (Place × Place)). AllZip listed starts listings) these answered.1, reported) in
     record {
-      requests = requests_then was.requests c.in_ok-here.ensures.requests;
+      requests = requests_then was.requests c.in_ok-here.ensures.reads.requests;
       few = let count = ap length taken ∙ length-take (max_files + 1) (kept ++ here) in omega (arith, count);
       under = subst (λ (es : Entries). AllByRecursion (λ entry. IsTrue (is_under_any (places_of (starts_in include roots)) entry.1)) es) (sym taken)
           (all_take _ (max_files + 1) (kept ++ here) (all_append _ kept here was.under
@@ -93,7 +93,7 @@ loop-root-preserved g c =
           (λ entry h. under_all include roots i root entry.1 within is (subst (λ (starts : List (Place × Place)). IsTrue (is_under_any (places_of starts) entry.1)) these h)) c.in_ok-here.ensures.under)));
       answered = (all.0, all.1, taken ∙ all.2);
       back = λ faithful. was.back (back faithful);
-      same = λ faithful. c.in_ok-here.ensures.same faithful ∙ was.same (back faithful);
+      same = λ faithful. c.in_ok-here.ensures.reads.same faithful ∙ was.same (back faithful);
       found = λ faithful.
           let now : here ≡ held (found_from naming include exclude old.files (starts_in include (root ∷ []))) =
           c.in_ok-here.ensures.found faithful

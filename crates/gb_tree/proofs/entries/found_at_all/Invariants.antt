@@ -10,18 +10,18 @@ use Rattle.gb_tree.proofs.entries.found_at_all.Given as goal
 
 abbrev pub invariant-loop-root : goal.invariant-loop-root
 invariant-loop-root g l =
-    let contents = g.F.Folder.contents in
+    let contents = g.F.Folder.device.contents in
     let old = contents l.fn.folder in
     let passed = starts_in l.include (take l.root-index l.roots) in
     record {
-      requests : Requests g.F.Folder.failures g.F.Folder.may_leave g.F.Folder.allowed no_change l.fn.folder l.folder;
+      requests : Requests g.F.Folder.device no_change l.fn.folder l.folder;
       few : length l.entries.items ≤ max_files + 1;
       under : AllByRecursion (λ entry. IsTrue (is_under_any (places_of (starts_in l.include l.roots)) entry.1)) l.entries.items;
       answered : (listings : List (List Place))
-          × AllZip (IsStartListed g.F.Folder.failures g.F.Folder.may_leave g.F.Folder.allowed l.fn.folder l.folder) passed listings
+          × AllZip (IsStartListed g.F.Folder.device l.fn.folder l.folder) passed listings
           × (l.entries.items ≡ held (listed_in l.naming l.include l.exclude (zip passed listings)));
-      back : g.F.Folder.faithful l.folder → g.F.Folder.faithful l.fn.folder;
-      same : g.F.Folder.faithful l.folder → contents l.folder ≡ old;
-      found : g.F.Folder.faithful l.folder → l.entries.items ≡ held (found_from l.naming l.include l.exclude old.files passed);
-      none_special : g.F.Folder.faithful l.folder → special_roots old (places_of passed) ≡ [];
+      back : g.F.Folder.device.faithful l.folder → g.F.Folder.device.faithful l.fn.folder;
+      same : g.F.Folder.device.faithful l.folder → contents l.folder ≡ old;
+      found : g.F.Folder.device.faithful l.folder → l.entries.items ≡ held (found_from l.naming l.include l.exclude old.files passed);
+      none_special : g.F.Folder.device.faithful l.folder → special_roots old (places_of passed) ≡ [];
     }

@@ -14,11 +14,11 @@ pub returns-in_err-entries-clause-blame : goal.returns-in_err-entries-clause-bla
 returns-in_err-entries-clause-blame g c =
     let p = err_from_is_err_and c.from_residual.result c.from_residual.ensures.1 in
     let IsSuch : Place → Type 0 = λ at. IsTrue (is_under_any (places_of (starts_in c.args.include.now c.args.roots.now)) at) in
-    blamed_before IsSuch IsSuch _ _ _ _ c.in_err-entries.field-0.0 p.0 (omega arith) c.in_err-entries.ensures.requests.count p.1 p.2 (λ at h. h) c.in_err-entries.ensures.blame
+    blamed_before IsSuch IsSuch _ _ _ _ c.in_err-entries.field-0.0 p.0 (omega arith) c.in_err-entries.ensures.reads.requests.count p.1 p.2 (λ at h. h) c.in_err-entries.ensures.blame
 
 pub returns-then-len-gt-MAX_FILES-clause-err : goal.returns-then-len-gt-MAX_FILES-clause-err
 returns-then-len-gt-MAX_FILES-clause-err g c = λ faithful.
-    let old = g.F.Folder.contents c.args.folder.now in
+    let old = g.F.Folder.device.contents c.args.folder.now in
     let name = c.args.name.now in
     let all = found_from c.args.naming c.args.include.now c.args.exclude.now old.files (starts_in c.args.include.now c.args.roots.now) in
     let many = held_many c.in_ok-entries.entries.items all (c.in_ok-entries.ensures.found faithful) (omega (arith, c.len.ensures, c.if-len-gt-MAX_FILES.true)) in

@@ -8,11 +8,11 @@ returns-then-is_own-clause-listed g c = inl (sym c.is_own.ensures ∙ c.if-is_ow
 
 pub returns-then-is_own-clause-entries : goal.returns-then-is_own-clause-entries
 returns-then-is_own-clause-entries g c = λ faithful.
-    let old = g.F.Folder.contents c.args.folder.now in
+    let old = g.F.Folder.device.contents c.args.folder.now in
     let place = c.args.place.now in
     c.new.ensures.items ∙ sym (ap (λ b. cond b [] (entries_from place (places_under old.files place))) (sym c.is_own.ensures ∙ c.if-is_own.true))
 
 pub returns-then-is_own-clause-fit : goal.returns-then-is_own-clause-fit
 returns-then-is_own-clause-fit g c = λ faithful.
-    let old = g.F.Folder.contents c.args.folder.now in
+    let old = g.F.Folder.device.contents c.args.folder.now in
     ap (λ b. cond b [] (listing_faults c.args.name.now c.args.place.now old)) (sym c.is_own.ensures ∙ c.if-is_own.true)

@@ -10,29 +10,29 @@ use Rattle.gb_tree.proofs.output.output_prints.Goals as goal
 
 pub returns-in_err-digests-clause-err : goal.returns-in_err-digests-clause-err
 returns-in_err-digests-clause-err g c = λ faithful.
-    let before = c.in_err-digests.ensures.back faithful in
+    let before = c.in_err-digests.ensures.reads.requests.back faithful in
     let p = err_from_is_err_and c.from_residual-in_err-digests.result c.from_residual-in_err-digests.ensures.1 in
-    let failures = g.F.Folder.failures in
-    let old = g.F.Folder.contents c.args.folder.now in
+    let failures = g.F.Folder.device.failures in
+    let old = g.F.Folder.device.contents c.args.folder.now in
     let name = c.args.name.now in
     let root = c.args.place.now in
     let entries = output_entries old.files root in
     let listing = output_listing_faults name root old in
     at_err (λ r. IfErr r (λ fault. IsRefused (failures c.args.folder.now) (failures c.digest_all.new.folder) (listing ++ too_large old.files entries) fault)) c.from_residual-in_err-digests.result p.0 c.in_err-digests.field-0.0 p.1 p.2
-    (refused_reading (failures c.args.folder.now) _ _ old _ listing entries c.as_slice.result.now c.in_err-digests.field-0.0 (c.in_ok-entries.ensures.same before) (c.as_slice.ensures.value ∙ c.in_ok-entries.ensures.entries before)
-    c.in_ok-entries.ensures.requests.count c.in_err-digests.ensures.requests.count (c.in_ok-entries.ensures.fit before) (outputs_exist old.files root) (c.in_err-digests.ensures.err faithful))
+    (refused_reading (failures c.args.folder.now) _ _ old _ listing entries c.as_slice.result.now c.in_err-digests.field-0.0 (c.in_ok-entries.ensures.reads.same before) (c.as_slice.ensures.value ∙ c.in_ok-entries.ensures.entries before)
+    c.in_ok-entries.ensures.reads.requests.count c.in_err-digests.ensures.reads.requests.count (c.in_ok-entries.ensures.fit before) (outputs_exist old.files root) (c.in_err-digests.ensures.err faithful))
 
 pub returns-in_err-entries-clause-blame : goal.returns-in_err-entries-clause-blame
 returns-in_err-entries-clause-blame g c =
     let p = err_from_is_err_and c.from_residual.result c.from_residual.ensures.1 in
     let IsSuch : Place → Type 0 = λ at. IsTrue (is_under at c.args.place.now) in
-    blamed_before IsSuch IsSuch _ _ _ _ c.in_err-entries.field-0.0 p.0 (omega arith) c.in_err-entries.ensures.requests.count p.1 p.2 (λ at h. h) c.in_err-entries.ensures.blame
+    blamed_before IsSuch IsSuch _ _ _ _ c.in_err-entries.field-0.0 p.0 (omega arith) c.in_err-entries.ensures.reads.requests.count p.1 p.2 (λ at h. h) c.in_err-entries.ensures.blame
 
 pub returns-in_err-entries-clause-err : goal.returns-in_err-entries-clause-err
 returns-in_err-entries-clause-err g c = λ faithful.
     let p = err_from_is_err_and c.from_residual.result c.from_residual.ensures.1 in
-    let failures = g.F.Folder.failures in
-    let old = g.F.Folder.contents c.args.folder.now in
+    let failures = g.F.Folder.device.failures in
+    let old = g.F.Folder.device.contents c.args.folder.now in
     at_err (λ r. IfErr r (λ fault. IsRefused (failures c.args.folder.now) (failures c.entries_at.new.folder) (output_faults c.args.name.now c.args.place.now old) fault)) c.from_residual.result p.0 c.in_err-entries.field-0.0 p.1 p.2
     (refused_listing _ _ (output_listing_faults c.args.name.now c.args.place.now old) _ _ (c.in_err-entries.ensures.err faithful))
 
@@ -41,5 +41,5 @@ returns-in_err-digests-clause-blame g c =
     let p = err_from_is_err_and c.from_residual-in_err-digests.result c.from_residual-in_err-digests.ensures.1 in
     let read = c.as_slice.result.now in
     let IsSuch : Place → Type 0 = λ at. IsTrue (is_under at c.args.place.now) in
-    blamed_before (λ at. IsTrue (is_among read at)) IsSuch _ _ _ _ c.in_err-digests.field-0.0 p.0 c.in_ok-entries.ensures.requests.count c.in_err-digests.ensures.requests.count p.1 p.2
+    blamed_before (λ at. IsTrue (is_among read at)) IsSuch _ _ _ _ c.in_err-digests.field-0.0 p.0 c.in_ok-entries.ensures.reads.requests.count c.in_err-digests.ensures.reads.requests.count p.1 p.2
     (among_read IsSuch c.in_ok-entries.entries.items read c.as_slice.ensures.value c.in_ok-entries.ensures.under) c.in_err-digests.ensures.blame

@@ -11,14 +11,14 @@ use Rattle.gb_tree.proofs.output.output_reading.Goals as goal
 pub returns-clause-blame : goal.returns-clause-blame
 returns-clause-blame g c =
     let IsSuch : Place → Type 0 = λ at. IsTrue (is_under at c.args.place.now) in
-    blames_longer IsSuch _ _ _ _ c.read_output_once-first.ensures.requests.count c.read_output_once.ensures.requests.count c.read_output_once.ensures.blame
+    blames_longer IsSuch _ _ _ _ c.read_output_once-first.ensures.reads.requests.count c.read_output_once.ensures.reads.requests.count c.read_output_once.ensures.blame
 
 pub returns-clause-listed : goal.returns-clause-listed
 returns-clause-listed g c =
     ok_as c.read_output_once.result c.read_output_once.ensures.listed
-    (λ reading were. output_entries_longer c.read_output_once-first.ensures.requests (requests_nothing c.read_output_once.new.folder) c.args.place.now (entries_observed reading.1) were)
+    (λ reading were. output_entries_longer c.read_output_once-first.ensures.reads.requests (requests_nothing c.read_output_once.new.folder) c.args.place.now (entries_observed reading.1) were)
 
 pub returns-clause-answered : goal.returns-clause-answered
 returns-clause-answered g c = λ first before known.
-    let asked = c.read_output_once-first.ensures.requests in
+    let asked = c.read_output_once-first.ensures.reads.requests in
     c.read_output_once.ensures.answered first (requests_then before asked) (seen_longer (requests_nothing first) asked c.args.seen.now known)

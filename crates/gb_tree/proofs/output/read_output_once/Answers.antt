@@ -19,29 +19,29 @@ use Rattle.gb_tree.proofs.output.read_output_once.Goals as goal
 
 pub returns-in_err-observed-clause-err : goal.returns-in_err-observed-clause-err
 returns-in_err-observed-clause-err g c = λ faithful known.
-    let before = c.in_err-observed.ensures.back faithful in
+    let before = c.in_err-observed.ensures.reads.requests.back faithful in
     let p = err_from_is_err_and c.from_residual-in_err-observed.result c.from_residual-in_err-observed.ensures.1 in
-    let failures = g.F.Folder.failures in
-    let old = g.F.Folder.contents c.args.folder.now in
+    let failures = g.F.Folder.device.failures in
+    let old = g.F.Folder.device.contents c.args.folder.now in
     let name = c.args.name.now in
     let root = c.args.place.now in
     let entries = output_entries old.files root in
     let listing = output_listing_faults name root old in
     at_err (λ r. IfErr r (λ fault. IsRefused (failures c.args.folder.now) (failures c.scan_all.new.folder) (listing ++ too_large old.files entries) fault)) c.from_residual-in_err-observed.result p.0 c.in_err-observed.field-0.0 p.1 p.2
-    (refused_reading (failures c.args.folder.now) _ _ old _ listing entries c.as_slice.result.now c.in_err-observed.field-0.0 (c.in_ok-entries.ensures.same before) (c.as_slice.ensures.value ∙ c.in_ok-entries.ensures.entries before)
-    c.in_ok-entries.ensures.requests.count c.in_err-observed.ensures.requests.count (c.in_ok-entries.ensures.fit before) (outputs_exist old.files root) (c.in_err-observed.ensures.err faithful (subst (λ (now : Contents). AreSeenIn now.files c.args.seen.now) (sym (c.in_ok-entries.ensures.same before)) known)))
+    (refused_reading (failures c.args.folder.now) _ _ old _ listing entries c.as_slice.result.now c.in_err-observed.field-0.0 (c.in_ok-entries.ensures.reads.same before) (c.as_slice.ensures.value ∙ c.in_ok-entries.ensures.entries before)
+    c.in_ok-entries.ensures.reads.requests.count c.in_err-observed.ensures.reads.requests.count (c.in_ok-entries.ensures.fit before) (outputs_exist old.files root) (c.in_err-observed.ensures.err faithful (subst (λ (now : Contents). AreSeenIn now.files c.args.seen.now) (sym (c.in_ok-entries.ensures.reads.same before)) known)))
 
 pub returns-in_err-entries-clause-blame : goal.returns-in_err-entries-clause-blame
 returns-in_err-entries-clause-blame g c =
     let p = err_from_is_err_and c.from_residual.result c.from_residual.ensures.1 in
     let IsSuch : Place → Type 0 = λ at. IsTrue (is_under at c.args.place.now) in
-    blamed_before IsSuch IsSuch _ _ _ _ c.in_err-entries.field-0.0 p.0 (omega arith) c.in_err-entries.ensures.requests.count p.1 p.2 (λ at h. h) c.in_err-entries.ensures.blame
+    blamed_before IsSuch IsSuch _ _ _ _ c.in_err-entries.field-0.0 p.0 (omega arith) c.in_err-entries.ensures.reads.requests.count p.1 p.2 (λ at h. h) c.in_err-entries.ensures.blame
 
 pub returns-in_err-entries-clause-err : goal.returns-in_err-entries-clause-err
 returns-in_err-entries-clause-err g c = λ faithful known.
     let p = err_from_is_err_and c.from_residual.result c.from_residual.ensures.1 in
-    let failures = g.F.Folder.failures in
-    let old = g.F.Folder.contents c.args.folder.now in
+    let failures = g.F.Folder.device.failures in
+    let old = g.F.Folder.device.contents c.args.folder.now in
     at_err (λ r. IfErr r (λ fault. IsRefused (failures c.args.folder.now) (failures c.entries_at.new.folder) (output_faults c.args.name.now c.args.place.now old) fault)) c.from_residual.result p.0 c.in_err-entries.field-0.0 p.1 p.2
     (refused_listing _ _ (output_listing_faults c.args.name.now c.args.place.now old) _ _ (c.in_err-entries.ensures.err faithful))
 
@@ -50,22 +50,22 @@ returns-in_err-observed-clause-blame g c =
     let p = err_from_is_err_and c.from_residual-in_err-observed.result c.from_residual-in_err-observed.ensures.1 in
     let read = c.as_slice.result.now in
     let IsSuch : Place → Type 0 = λ at. IsTrue (is_under at c.args.place.now) in
-    blamed_before (λ at. IsTrue (is_among read at)) IsSuch _ _ _ _ c.in_err-observed.field-0.0 p.0 c.in_ok-entries.ensures.requests.count c.in_err-observed.ensures.requests.count p.1 p.2
+    blamed_before (λ at. IsTrue (is_among read at)) IsSuch _ _ _ _ c.in_err-observed.field-0.0 p.0 c.in_ok-entries.ensures.reads.requests.count c.in_err-observed.ensures.reads.requests.count p.1 p.2
     (among_read IsSuch c.in_ok-entries.entries.items read c.as_slice.ensures.value c.in_ok-entries.ensures.under) c.in_err-observed.ensures.blame
 
 pub returns-clause-listed : goal.returns-clause-listed
 returns-clause-listed g c =
     let F = g.F.Folder in
     let place = c.args.place.now in
-    subst (λ (reported : Entries). AreOutputEntriesListed F.failures F.may_leave F.allowed c.args.folder.now c.scan_all.new.folder place reported)
+    subst (λ (reported : Entries). AreOutputEntriesListed F.device c.args.folder.now c.scan_all.new.folder place reported)
     (sym (ap (λ (reading : List ℕ × List ScannedFile). entries_observed reading.1) c.new.ensures ∙ c.in_ok-observed.ensures.placed ∙ c.as_slice.ensures.value))
-    (output_entries_longer (requests_nothing c.args.folder.now) c.in_ok-observed.ensures.requests place c.in_ok-entries.entries.items c.in_ok-entries.ensures.listed)
+    (output_entries_longer (requests_nothing c.args.folder.now) c.in_ok-observed.ensures.reads.requests place c.in_ok-entries.entries.items c.in_ok-entries.ensures.listed)
 
 pub returns-clause-answered : goal.returns-clause-answered
 returns-clause-answered g c = λ first before known.
     let F = g.F.Folder in
-    let asked = c.in_ok-entries.ensures.requests in
-    subst (λ (reading : List ℕ × List ScannedFile). WereObserved F.failures F.may_leave F.allowed first c.scan_all.new.folder reading.1) (sym c.new.ensures)
+    let asked = c.in_ok-entries.ensures.reads.requests in
+    subst (λ (reading : List ℕ × List ScannedFile). WereObserved F.device first c.scan_all.new.folder reading.1) (sym c.new.ensures)
     (c.in_ok-observed.ensures.answered first (requests_then before asked) (seen_longer (requests_nothing first) asked c.args.seen.now known))
 
 pub returns-clause-under : goal.returns-clause-under
@@ -76,11 +76,11 @@ returns-clause-under g c =
 
 pub returns-clause-digests : goal.returns-clause-digests
 returns-clause-digests g c = λ faithful known.
-    let before = c.in_ok-observed.ensures.back faithful in
-    let files = (g.F.Folder.contents c.args.folder.now).files in
+    let before = c.in_ok-observed.ensures.reads.requests.back faithful in
+    let files = (g.F.Folder.device.contents c.args.folder.now).files in
     let observed = c.in_ok-observed.observed.items in
     ap (λ (reading : List ℕ × List ScannedFile). digests_observed reading.1) c.new.ensures
     ∙ observed_digests files (output_entries files c.args.place.now) observed (record {
       placed = c.in_ok-observed.ensures.placed ∙ c.as_slice.ensures.value ∙ c.in_ok-entries.ensures.entries before;
-      each = subst (λ (now : Contents). AllByRecursion (IsObservedIn now.files) observed) (c.in_ok-entries.ensures.same before) (c.in_ok-observed.ensures.observed faithful (subst (λ (now : Contents). AreSeenIn now.files c.args.seen.now) (sym (c.in_ok-entries.ensures.same before)) known));
+      each = subst (λ (now : Contents). AllByRecursion (IsObservedIn now.files) observed) (c.in_ok-entries.ensures.reads.same before) (c.in_ok-observed.ensures.observed faithful (subst (λ (now : Contents). AreSeenIn now.files c.args.seen.now) (sym (c.in_ok-entries.ensures.reads.same before)) known));
     })

@@ -11,30 +11,30 @@ use Rattle.gb_tree.proofs.property.snapshot.Goals as goal
 
 pub returns-in_err-files-clause-err : goal.returns-in_err-files-clause-err
 returns-in_err-files-clause-err g c = λ faithful.
-    let before = c.in_err-files.ensures.back faithful in
+    let before = c.in_err-files.ensures.reads.requests.back faithful in
     let p = err_from_is_err_and c.from_residual-in_err-files.result c.from_residual-in_err-files.ensures.1 in
-    let failures = g.F.Folder.failures in
-    let old = g.F.Folder.contents c.args.folder.now in
+    let failures = g.F.Folder.device.failures in
+    let old = g.F.Folder.device.contents c.args.folder.now in
     let roots = c.args.roots.now in
     let include = c.args.include.now in
     let exclude = c.args.exclude.now in
     let entries = entries_of c.args.naming roots include exclude old.files in
     let listing = entry_faults c.args.name.now c.args.naming roots include exclude old in
     at_err (λ r. IfErr r (λ fault. IsRefused (failures c.args.folder.now) (failures c.read_all.new.folder) (listing ++ too_large old.files entries) fault)) c.from_residual-in_err-files.result p.0 c.in_err-files.field-0.0 p.1 p.2
-    (refused_reading (failures c.args.folder.now) _ _ old _ listing entries c.as_slice.result.now c.in_err-files.field-0.0 (c.in_ok-entries.ensures.same before) (c.as_slice.ensures.value ∙ c.in_ok-entries.ensures.entries before)
-    c.in_ok-entries.ensures.requests.count c.in_err-files.ensures.requests.count (c.in_ok-entries.ensures.fit before) (found_exist c.args.naming roots include exclude old.files) (c.in_err-files.ensures.err faithful))
+    (refused_reading (failures c.args.folder.now) _ _ old _ listing entries c.as_slice.result.now c.in_err-files.field-0.0 (c.in_ok-entries.ensures.reads.same before) (c.as_slice.ensures.value ∙ c.in_ok-entries.ensures.entries before)
+    c.in_ok-entries.ensures.reads.requests.count c.in_err-files.ensures.reads.requests.count (c.in_ok-entries.ensures.fit before) (found_exist c.args.naming roots include exclude old.files) (c.in_err-files.ensures.err faithful))
 
 pub returns-in_err-entries-clause-blame : goal.returns-in_err-entries-clause-blame
 returns-in_err-entries-clause-blame g c =
     let p = err_from_is_err_and c.from_residual.result c.from_residual.ensures.1 in
     let IsSuch : Place → Type 0 = λ at. IsTrue (is_under_any c.args.roots.now at) in
-    blamed_before IsSuch IsSuch _ _ _ _ c.in_err-entries.field-0.0 p.0 (omega arith) c.in_err-entries.ensures.requests.count p.1 p.2 (λ at h. h) c.in_err-entries.ensures.blame
+    blamed_before IsSuch IsSuch _ _ _ _ c.in_err-entries.field-0.0 p.0 (omega arith) c.in_err-entries.ensures.reads.requests.count p.1 p.2 (λ at h. h) c.in_err-entries.ensures.blame
 
 pub returns-in_err-entries-clause-err : goal.returns-in_err-entries-clause-err
 returns-in_err-entries-clause-err g c = λ faithful.
     let p = err_from_is_err_and c.from_residual.result c.from_residual.ensures.1 in
-    let failures = g.F.Folder.failures in
-    let old = g.F.Folder.contents c.args.folder.now in
+    let failures = g.F.Folder.device.failures in
+    let old = g.F.Folder.device.contents c.args.folder.now in
     at_err (λ r. IfErr r (λ fault. IsRefused (failures c.args.folder.now) (failures c.entries_of.new.folder) (tree_faults c.args.name.now c.args.naming c.args.roots.now c.args.include.now c.args.exclude.now old) fault)) c.from_residual.result p.0 c.in_err-entries.field-0.0 p.1 p.2
     (refused_listing _ _ (entry_faults c.args.name.now c.args.naming c.args.roots.now c.args.include.now c.args.exclude.now old) _ _ (c.in_err-entries.ensures.err faithful))
 
@@ -43,5 +43,5 @@ returns-in_err-files-clause-blame g c =
     let p = err_from_is_err_and c.from_residual-in_err-files.result c.from_residual-in_err-files.ensures.1 in
     let read = c.as_slice.result.now in
     let IsSuch : Place → Type 0 = λ at. IsTrue (is_under_any c.args.roots.now at) in
-    blamed_before (λ at. IsTrue (is_among read at)) IsSuch _ _ _ _ c.in_err-files.field-0.0 p.0 c.in_ok-entries.ensures.requests.count c.in_err-files.ensures.requests.count p.1 p.2
+    blamed_before (λ at. IsTrue (is_among read at)) IsSuch _ _ _ _ c.in_err-files.field-0.0 p.0 c.in_ok-entries.ensures.reads.requests.count c.in_err-files.ensures.reads.requests.count p.1 p.2
     (among_read IsSuch c.in_ok-entries.entries.items read c.as_slice.ensures.value c.in_ok-entries.ensures.under) c.in_err-files.ensures.blame

@@ -18,5 +18,5 @@ returns-in_err-digest-clause-blame g c =
     let p = err_from_is_err_and c.from_residual-in_err-digest.result c.from_residual-in_err-digest.ensures.1 in
     let entries = c.args.entries.now in
     let entry = c.loop-path-item.result in
-    blamed_before (λ at. at ≡ entry.1) (λ at. IsTrue (is_among entries at)) _ _ _ _ c.in_err-digest.field-0.0 p.0 c.loop-path.invariant.requests.count c.in_err-digest.ensures.requests.count p.1 p.2
+    blamed_before (λ at. at ≡ entry.1) (λ at. IsTrue (is_among entries at)) _ _ _ _ c.in_err-digest.field-0.0 p.0 c.loop-path.invariant.requests.count c.in_err-digest.ensures.reads.requests.count p.1 p.2
     (at_entry entries c.loop-path.path-index entry c.loop-path-test.true c.loop-path-item.is) c.in_err-digest.ensures.blame

@@ -8,13 +8,13 @@ use Rattle.gb_tree.proofs.reading.digest_all.Given as goal
 
 abbrev pub invariant-loop-path : goal.invariant-loop-path
 invariant-loop-path g l =
-    let contents = g.F.Folder.contents in
+    let contents = g.F.Folder.device.contents in
     let old = (contents l.fn.folder).files in
     record {
-      requests : Requests g.F.Folder.failures g.F.Folder.may_leave g.F.Folder.allowed no_change l.fn.folder l.folder;
-      back : g.F.Folder.faithful l.folder → g.F.Folder.faithful l.fn.folder;
-      same : g.F.Folder.faithful l.folder → contents l.folder ≡ contents l.fn.folder;
+      requests : Requests g.F.Folder.device no_change l.fn.folder l.folder;
+      back : g.F.Folder.device.faithful l.folder → g.F.Folder.device.faithful l.fn.folder;
+      same : g.F.Folder.device.faithful l.folder → contents l.folder ≡ contents l.fn.folder;
       paths : map (λ entry. entry.0) l.digests.items ≡ paths_of (take l.path-index l.entries);
-      digested : g.F.Folder.faithful l.folder → l.digests.items ≡ digests_of (contents_at old (take l.path-index l.entries));
-      large : g.F.Folder.faithful l.folder → first_of (too_large old (drop l.path-index l.entries)) ≡ first_of (too_large old l.entries);
+      digested : g.F.Folder.device.faithful l.folder → l.digests.items ≡ digests_of (contents_at old (take l.path-index l.entries));
+      large : g.F.Folder.device.faithful l.folder → first_of (too_large old (drop l.path-index l.entries)) ≡ first_of (too_large old l.entries);
     }

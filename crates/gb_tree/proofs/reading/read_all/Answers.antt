@@ -13,8 +13,8 @@ use Rattle.gb_tree.proofs.reading.read_all.Goals as goal
 
 pub loop-path-preserved : goal.loop-path-preserved
 loop-path-preserved g c =
-    let back = c.read_file.ensures.back in
-    let contents = g.F.Folder.contents in
+    let back = c.read_file.ensures.reads.requests.back in
+    let contents = g.F.Folder.device.contents in
     let files = (contents c.args.folder.now).files in
     let entries = c.args.entries.now in
     let old = c.loop-path in
@@ -23,9 +23,9 @@ loop-path-preserved g c =
     let within = c.loop-path-test.true in
     let is = c.loop-path-item.is in
     record {
-      requests = requests_then old.invariant.requests c.read_file.ensures.requests;
+      requests = requests_then old.invariant.requests c.read_file.ensures.reads.requests;
       back = λ faithful. old.invariant.back (back faithful);
-      same = λ faithful. c.read_file.ensures.same faithful ∙ old.invariant.same (back faithful);
+      same = λ faithful. c.read_file.ensures.reads.same faithful ∙ old.invariant.same (back faithful);
       read = λ faithful.
           c.in_ok-insert.ensures.ok
           ∙ ap (λ path. put byte_order path c.in_ok-bytes.bytes old.files) c.in_ok-copy.ensures
@@ -43,5 +43,5 @@ returns-in_err-bytes-clause-blame g c =
     let p = err_from_is_err_and c.from_residual.result c.from_residual.ensures.1 in
     let entries = c.args.entries.now in
     let entry = c.loop-path-item.result in
-    blamed_before (λ at. at ≡ entry.1) (λ at. IsTrue (is_among entries at)) _ _ _ _ c.in_err-bytes.field-0.0 p.0 c.loop-path.invariant.requests.count c.in_err-bytes.ensures.requests.count p.1 p.2
+    blamed_before (λ at. at ≡ entry.1) (λ at. IsTrue (is_among entries at)) _ _ _ _ c.in_err-bytes.field-0.0 p.0 c.loop-path.invariant.requests.count c.in_err-bytes.ensures.reads.requests.count p.1 p.2
     (at_entry entries c.loop-path.path-index entry c.loop-path-test.true c.loop-path-item.is) c.in_err-bytes.ensures.blame

@@ -17,12 +17,12 @@ returns-in_ok-recalled-in-Some-clause-answered g c = λ first before known.
     let seen = c.args.seen.now in
     let place = c.args.place.now in
     let among = subst (λ r. IfSome r (λ digest. Contains seen (place, digest))) c.in-Some.is c.digest_at.ensures in
-    subst (λ (file : ScannedFile). WasObserved F.failures F.may_leave F.allowed first now file) (sym c.in_ok-recalled-in-Some.ensures)
-    (seen_observed F.failures F.may_leave F.allowed first now seen c.args.path.now place c.in-Some.digest among known)
+    subst (λ (file : ScannedFile). WasObserved F.device first now file) (sym c.in_ok-recalled-in-Some.ensures)
+    (seen_observed F.device first now seen c.args.path.now place c.in-Some.digest among known)
 
 pub returns-in_ok-recalled-in-Some-clause-observed : goal.returns-in_ok-recalled-in-Some-clause-observed
 returns-in_ok-recalled-in-Some-clause-observed g c = λ faithful known.
-    let files = (g.F.Folder.contents c.args.folder.now).files in
+    let files = (g.F.Folder.device.contents c.args.folder.now).files in
     let seen = c.args.seen.now in
     let place = c.args.place.now in
     let among = subst (λ r. IfSome r (λ digest. Contains seen (place, digest))) c.in-Some.is c.digest_at.ensures in

@@ -24,13 +24,13 @@ pub returns-in-Err-clause-blame : goal.returns-in-Err-clause-blame
 returns-in-Err-clause-blame g c =
     let entries = c.args.entries.now in
     let entry = c.loop-path-item.result in
-    blamed_before (λ at. at ≡ entry.1) (λ at. IsTrue (is_among entries at)) _ _ _ _ c.in-Err.fault _ c.loop-path.invariant.requests.count c.in-Err.ensures.requests.count refl refl
+    blamed_before (λ at. at ≡ entry.1) (λ at. IsTrue (is_among entries at)) _ _ _ _ c.in-Err.fault _ c.loop-path.invariant.requests.count c.in-Err.ensures.reads.requests.count refl refl
     (at_entry entries c.loop-path.path-index entry c.loop-path-test.true c.loop-path-item.is) c.in-Err.ensures.blame
 
 pub returns-in-Err-clause-err : goal.returns-in-Err-clause-err
 returns-in-Err-clause-err g c = λ faithful known exists.
-    let before = c.find_file.ensures.back faithful in
-    let files = (g.F.Folder.contents c.args.folder.now).files in
+    let before = c.find_file.ensures.reads.requests.back faithful in
+    let files = (g.F.Folder.device.contents c.args.folder.now).files in
     let entries = c.args.entries.now in
     let so_far = c.loop-path.invariant in
     let i = c.loop-path.path-index in
@@ -40,7 +40,7 @@ returns-in-Err-clause-err g c = λ faithful known exists.
     let rest = filter (λ f. is_large files f.1) (drop (i + 1) entries) in
     elim (c.in-Err.ensures.err faithful (subst (λ (now : Contents). IsSome (file_at now.files e.1)) (sym (so_far.same before))
     (all_at (λ (entry : List ℕ × Place). IsSome (file_at files entry.1)) entries i e within is exists))) [
-      | inl machine ↦ inl (machine_before _ _ _ _ so_far.requests.count c.in-Err.ensures.requests.count machine)
+      | inl machine ↦ inl (machine_before _ _ _ _ so_far.requests.count c.in-Err.ensures.reads.requests.count machine)
       | inr large ↦
           let here : is_large files e.1 ≡ true = sym (ap (λ (now : Contents). is_large now.files e.1) (so_far.same before)) ∙ large.0 in
           inr (sym (so_far.large before known)
@@ -51,8 +51,8 @@ returns-in-Err-clause-err g c = λ faithful known exists.
 
 pub loop-path-preserved : goal.loop-path-preserved
 loop-path-preserved g c =
-    let back = c.find_file.ensures.back in
-    let contents = g.F.Folder.contents in
+    let back = c.find_file.ensures.reads.requests.back in
+    let contents = g.F.Folder.device.contents in
     let files = (contents c.args.folder.now).files in
     let entries = c.args.entries.now in
     let old = c.loop-path in
@@ -64,17 +64,17 @@ loop-path-preserved g c =
     let is = c.loop-path-item.is in
     let added = c.in_ok-waiting.ensures in
     let seen = c.args.seen.now in
-    let is_observed : g.F.Folder.faithful c.find_file.new.folder → AreSeenIn files seen → IsObservedIn files x = λ faithful known. subst (λ (now : Contents). IsObservedIn now.files x) (old.invariant.same (back faithful))
+    let is_observed : g.F.Folder.device.faithful c.find_file.new.folder → AreSeenIn files seen → IsObservedIn files x = λ faithful known. subst (λ (now : Contents). IsObservedIn now.files x) (old.invariant.same (back faithful))
     (c.in-Ok.ensures.observed faithful (subst (λ (now : Contents). AreSeenIn now.files seen) (sym (old.invariant.same (back faithful))) known)) in
     record {
-      requests = requests_then old.invariant.requests c.find_file.ensures.requests;
+      requests = requests_then old.invariant.requests c.find_file.ensures.reads.requests;
       back = λ faithful. old.invariant.back (back faithful);
-      same = λ faithful. c.find_file.ensures.same faithful ∙ old.invariant.same (back faithful);
+      same = λ faithful. c.find_file.ensures.reads.same faithful ∙ old.invariant.same (back faithful);
       answered = λ first before known.
           let F = g.F.Folder in
           let now = c.find_file.new.folder in
-          each_more (WasObserved F.failures F.may_leave F.allowed first now) read _ x added
-          (all_observed_longer (requests_nothing first) c.find_file.ensures.requests read (old.invariant.answered first before known))
+          each_more (WasObserved F.device first now) read _ x added
+          (all_observed_longer (requests_nothing first) c.find_file.ensures.reads.requests read (old.invariant.answered first before known))
           (c.in-Ok.ensures.answered first (requests_then before old.invariant.requests) (seen_longer (requests_nothing first) old.invariant.requests seen known));
       placed = placed_more entries i e read _ x within is added c.in-Ok.ensures.path c.in-Ok.ensures.place old.invariant.placed;
       digested = test_more (λ (file : ScannedFile). is_digest_of file.kept file.digest) read _ x added old.invariant.digested c.in-Ok.ensures.digested;

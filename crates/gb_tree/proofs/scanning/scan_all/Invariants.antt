@@ -11,18 +11,18 @@ use Rattle.gb_tree.proofs.scanning.scan_all.Given as goal
 
 abbrev pub invariant-loop-path : goal.invariant-loop-path
 invariant-loop-path g l =
-    let contents = g.F.Folder.contents in
+    let contents = g.F.Folder.device.contents in
     let old = (contents l.fn.folder).files in
     let read = l.observed.items ++ waiting_files l.waiting in
     record {
-      requests : Requests g.F.Folder.failures g.F.Folder.may_leave g.F.Folder.allowed no_change l.fn.folder l.folder;
-      back : g.F.Folder.faithful l.folder → g.F.Folder.faithful l.fn.folder;
-      same : g.F.Folder.faithful l.folder → contents l.folder ≡ contents l.fn.folder;
-      answered : (first : _) → Requests g.F.Folder.failures g.F.Folder.may_leave g.F.Folder.allowed no_change first l.fn.folder
-          → AreSeen g.F.Folder.failures g.F.Folder.may_leave g.F.Folder.allowed first l.fn.folder l.seen
-          → WereObserved g.F.Folder.failures g.F.Folder.may_leave g.F.Folder.allowed first l.folder read;
+      requests : Requests g.F.Folder.device no_change l.fn.folder l.folder;
+      back : g.F.Folder.device.faithful l.folder → g.F.Folder.device.faithful l.fn.folder;
+      same : g.F.Folder.device.faithful l.folder → contents l.folder ≡ contents l.fn.folder;
+      answered : (first : _) → Requests g.F.Folder.device no_change first l.fn.folder
+          → AreSeen g.F.Folder.device first l.fn.folder l.seen
+          → WereObserved g.F.Folder.device first l.folder read;
       placed : entries_observed read ≡ take l.path-index l.entries;
       digested : IsTrue (list_all (λ file. is_digest_of file.kept file.digest) read);
-      each : g.F.Folder.faithful l.folder → AreSeenIn old l.seen → AllByRecursion (IsObservedIn old) read;
-      large : g.F.Folder.faithful l.folder → AreSeenIn old l.seen → first_of (too_large old (drop l.path-index l.entries)) ≡ first_of (too_large old l.entries);
+      each : g.F.Folder.device.faithful l.folder → AreSeenIn old l.seen → AllByRecursion (IsObservedIn old) read;
+      large : g.F.Folder.device.faithful l.folder → AreSeenIn old l.seen → first_of (too_large old (drop l.path-index l.entries)) ≡ first_of (too_large old l.entries);
     }

@@ -8,10 +8,7 @@ use Rattle.gb_disk.proofs.Told.{listed, none_special}
 use Rattle.gb_disk.proofs.disk.DiskFolderFolder.list.Goals as goal
 
 pub returns-clause-requests : goal.returns-clause-requests
-returns-clause-requests g c = one_call (Lists c.args.root.now (answered c.counted-outcome.result)) tt (search rules) (search rules) (search rules)
-
-pub returns-clause-back : goal.returns-clause-back
-returns-clause-back g c = λ known. (answered_by c.args.self.now.log c.note.new.self.log (Lists c.args.root.now (answered c.counted-outcome.result)) (search rules) (search rules) known).0
+returns-clause-requests g c = one_call (Lists c.args.root.now (answered c.counted-outcome.result)) tt (search rules) (search rules) (λ known. (answered_by c.args.self.now.log c.note.new.self.log (Lists c.args.root.now (answered c.counted-outcome.result)) (search rules) (search rules) known).0) (search rules)
 
 pub returns-clause-listed : goal.returns-clause-listed
 returns-clause-listed g c = λ known. listed (shown c.args.self.now.log) c.args.root.now c.counted-outcome.result (answered_by c.args.self.now.log c.note.new.self.log (Lists c.args.root.now (answered c.counted-outcome.result)) (search rules) (search rules) known).1.0

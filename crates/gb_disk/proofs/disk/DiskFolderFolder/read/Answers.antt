@@ -9,10 +9,7 @@ use Rattle.gb_disk.proofs.Told.{found, is_larger}
 use Rattle.gb_disk.proofs.disk.DiskFolderFolder.read.Goals as goal
 
 pub returns-clause-requests : goal.returns-clause-requests
-returns-clause-requests g c = one_call (Reads c.args.place.now c.args.limit (answered c.counted-outcome.result)) tt (search rules) (search rules) (search rules)
-
-pub returns-clause-back : goal.returns-clause-back
-returns-clause-back g c = λ known. (answered_by c.args.self.now.log c.note.new.self.log (Reads c.args.place.now c.args.limit (answered c.counted-outcome.result)) (search rules) (search rules) known).0
+returns-clause-requests g c = one_call (Reads c.args.place.now c.args.limit (answered c.counted-outcome.result)) tt (search rules) (search rules) (λ known. (answered_by c.args.self.now.log c.note.new.self.log (Reads c.args.place.now c.args.limit (answered c.counted-outcome.result)) (search rules) (search rules) known).0) (search rules)
 
 pub returns-clause-same : goal.returns-clause-same
 returns-clause-same g c = λ known. (answered_by c.args.self.now.log c.note.new.self.log (Reads c.args.place.now c.args.limit (answered c.counted-outcome.result)) (search rules) (search rules) known).1.1

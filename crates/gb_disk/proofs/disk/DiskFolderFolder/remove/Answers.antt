@@ -9,10 +9,7 @@ use Rattle.gb_disk.proofs.Told.{existed, removed, unremoved}
 use Rattle.gb_disk.proofs.disk.DiskFolderFolder.remove.Goals as goal
 
 pub returns-clause-requests : goal.returns-clause-requests
-returns-clause-requests g c = one_call (Removes c.args.place.now c.counted-outcome.result) (taking_permitted c.args.place.now) (search rules) (search rules) (search rules)
-
-pub returns-clause-back : goal.returns-clause-back
-returns-clause-back g c = λ known. (answered_by c.args.self.now.log c.note.new.self.log (Removes c.args.place.now c.counted-outcome.result) (search rules) (search rules) known).0
+returns-clause-requests g c = one_call (Removes c.args.place.now c.counted-outcome.result) (taking_permitted c.args.place.now) (search rules) (search rules) (λ known. (answered_by c.args.self.now.log c.note.new.self.log (Removes c.args.place.now c.counted-outcome.result) (search rules) (search rules) known).0) (search rules)
 
 pub returns-clause-removed : goal.returns-clause-removed
 returns-clause-removed g c = λ known. removed (leaves_of c.args.self.now.log.supposed) (shown c.args.self.now.log) c.args.place.now (shown c.note.new.self.log) c.counted-outcome.result (answered_by c.args.self.now.log c.note.new.self.log (Removes c.args.place.now c.counted-outcome.result) (search rules) (search rules) known).1

@@ -9,10 +9,7 @@ use Rattle.gb_disk.proofs.Told.{free, unwritten, written}
 use Rattle.gb_disk.proofs.disk.DiskFolderFolder.write.Goals as goal
 
 pub returns-clause-requests : goal.returns-clause-requests
-returns-clause-requests g c = one_call (Writes c.args.place.now c.args.bytes.now c.args.limit c.counted-outcome.result) (put_permitted c.args.place.now c.args.bytes.now) (search rules) (search rules) (search rules)
-
-pub returns-clause-back : goal.returns-clause-back
-returns-clause-back g c = λ known. (answered_by c.args.self.now.log c.note.new.self.log (Writes c.args.place.now c.args.bytes.now c.args.limit c.counted-outcome.result) (search rules) (search rules) known).0
+returns-clause-requests g c = one_call (Writes c.args.place.now c.args.bytes.now c.args.limit c.counted-outcome.result) (put_permitted c.args.place.now c.args.bytes.now) (search rules) (search rules) (λ known. (answered_by c.args.self.now.log c.note.new.self.log (Writes c.args.place.now c.args.bytes.now c.args.limit c.counted-outcome.result) (search rules) (search rules) known).0) (search rules)
 
 pub returns-clause-written : goal.returns-clause-written
 returns-clause-written g c = λ known. written (leaves_of c.args.self.now.log.supposed) (shown c.args.self.now.log) c.args.place.now (shown c.note.new.self.log) c.args.bytes.now c.args.limit c.counted-outcome.result (answered_by c.args.self.now.log c.note.new.self.log (Writes c.args.place.now c.args.bytes.now c.args.limit c.counted-outcome.result) (search rules) (search rules) known).1

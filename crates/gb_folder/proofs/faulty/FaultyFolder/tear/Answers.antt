@@ -6,19 +6,19 @@ use Rattle.gb_folder.proofs.faulty.FaultyFolder.tear.Goals as goal
 
 pub returns-in-StopTorn-clause-torn : goal.returns-in-StopTorn-clause-torn
 returns-in-StopTorn-clause-torn g c faithful next =
-    let old = g.F.Folder.contents c.args.self.now.inner in
+    let old = g.F.Folder.device.contents c.args.self.now.inner in
     let place = c.args.place.now in
-    let left = g.F.Folder.may_leave c.args.self.now.inner place (file_at old.files place) in
-    torn_write c.args.self.now.plan.mode c.in-StopTorn.bytes (g.F.Folder.may_leave c.args.self.now.inner) old (g.F.Folder.contents c.write.new.self) place next c.write.result
+    let left = g.F.Folder.device.may_leave c.args.self.now.inner place (file_at old.files place) in
+    torn_write c.args.self.now.plan.mode c.in-StopTorn.bytes (g.F.Folder.device.may_leave c.args.self.now.inner) old (g.F.Folder.device.contents c.write.new.self) place next c.write.result
     (g.met.F.Folder.sound c.args.self.now.inner) c.in-StopTorn.is
-    (subst (λ (bytes : List ℕ). OnOk c.write.result (g.F.Folder.contents c.write.new.self ≡ record old { files = with_file old.files place bytes })) c.as_slice.ensures.value (c.write.ensures.written faithful))
+    (subst (λ (bytes : List ℕ). OnOk c.write.result (g.F.Folder.device.contents c.write.new.self ≡ record old { files = with_file old.files place bytes })) c.as_slice.ensures.value (c.write.ensures.written faithful))
     (c.write.ensures.same faithful)
     (λ is. let found = c.write.ensures.torn faithful is in (found.0, subst (λ (bytes : List ℕ). left (Some bytes) found.0) c.as_slice.ensures.value found.1, found.2))
 
 pub returns-then-self-clause-torn : goal.returns-then-self-clause-torn
 returns-then-self-clause-torn g c faithful next =
     let folder = c.args.self.now in
-    nothing_touched folder.plan.mode (g.F.Folder.may_leave folder.inner) (g.F.Folder.contents folder.inner) c.args.place.now (Some next) (g.met.F.Folder.sound folder.inner)
+    nothing_touched folder.plan.mode (g.F.Folder.device.may_leave folder.inner) (g.F.Folder.device.contents folder.inner) c.args.place.now (Some next) (g.met.F.Folder.sound folder.inner)
 
 pub returns-in_default : goal.returns-in_default
 returns-in_default g c =
@@ -29,5 +29,5 @@ returns-in_default g c =
       count = omega arith;
       tearing = λ place existed next left. (λ may. may, λ may. may);
       back = λ is. is;
-      torn = λ faithful next. nothing_touched folder.plan.mode (g.F.Folder.may_leave folder.inner) (g.F.Folder.contents folder.inner) c.args.place.now (Some next) (g.met.F.Folder.sound folder.inner);
+      torn = λ faithful next. nothing_touched folder.plan.mode (g.F.Folder.device.may_leave folder.inner) (g.F.Folder.device.contents folder.inner) c.args.place.now (Some next) (g.met.F.Folder.sound folder.inner);
     }

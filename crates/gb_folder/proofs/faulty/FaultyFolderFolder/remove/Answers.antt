@@ -9,10 +9,10 @@ use Rattle.gb_folder.proofs.faulty.FaultyFolderFolder.remove.Goals as goal
 pub returns-then-fails-clause-torn : goal.returns-then-fails-clause-torn
 returns-then-fails-clause-torn g c faithful is =
     let folder = c.args.self.now in
-    nothing_touched folder.plan.mode (g.F.Folder.may_leave folder.inner) (g.F.Folder.contents folder.inner) c.args.place.now None (g.met.F.Folder.sound folder.inner)
+    nothing_touched folder.plan.mode (g.F.Folder.device.may_leave folder.inner) (g.F.Folder.device.contents folder.inner) c.args.place.now None (g.met.F.Folder.sound folder.inner)
 
 pub returns-then-fails-clause-requests : goal.returns-then-fails-clause-requests
-returns-then-fails-clause-requests g c = one_call (Removes c.args.place.now (Err Device)) (taking_permitted c.args.place.now) (search rules) (search rules) (search rules)
+returns-then-fails-clause-requests g c = one_call (Removes c.args.place.now (Err Device)) (taking_permitted c.args.place.now) (search rules) (search rules) (search rules) (search rules)
 
 pub returns-clause-requests : goal.returns-clause-requests
-returns-clause-requests g c = one_call (Removes c.args.place.now c.remove.result) (taking_permitted c.args.place.now) (search rules) (search rules) (search rules)
+returns-clause-requests g c = one_call (Removes c.args.place.now c.remove.result) (taking_permitted c.args.place.now) (search rules) (search rules) (search rules) (search rules)

@@ -12,14 +12,14 @@ pub returns-in_err-reserve-clause-requests : goal.returns-in_err-reserve-clause-
 returns-in_err-reserve-clause-requests g c =
     one_call (Writes c.args.place.now c.args.bytes.now c.args.limit (Err OutOfMemory))
     (put_permitted c.args.place.now c.args.bytes.now)
-    (omega arith) (SameTearing-same _)
+    (omega arith) (SameTearing-same _) (λ known. known)
     (inr (ap log_of c.in_err-reserve.ensures.items, refl, requests_nothing c.args.self.now.inner))
 
 pub returns-clause-requests : goal.returns-clause-requests
 returns-clause-requests g c =
     one_call (Writes c.args.place.now c.args.bytes.now c.args.limit c.write-answer.result)
     (put_permitted c.args.place.now c.args.bytes.now)
-    c.write-answer.ensures.requests.count c.write-answer.ensures.requests.tearing
+    c.write-answer.ensures.requests.count c.write-answer.ensures.requests.tearing c.write-answer.ensures.requests.back
     (inl (
       kept_write c.args.limit c.write-answer.result c.in_ok-at.ensures c.in_ok-written.ensures
           c.in_ok-reserve.ensures.items

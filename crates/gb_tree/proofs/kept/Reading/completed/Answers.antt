@@ -11,7 +11,7 @@ use Rattle.gb_tree.proofs.kept.Reading.completed.Goals as goal
 pub returns-in_err-files-clause-blame : goal.returns-in_err-files-clause-blame
 returns-in_err-files-clause-blame g c =
     let p = err_from_is_err_and c.from_residual.result c.from_residual.ensures.1 in
-    blamed_before (λ at. IsTrue (is_among (entries_observed c.self.inside.files.items) at)) (λ at. IsTrue (is_among (entries_observed c.args.self.1) at)) _ _ _ _ c.in_err-files.field-0.0 p.0 (omega arith) c.in_err-files.ensures.requests.count p.1 p.2
+    blamed_before (λ at. IsTrue (is_among (entries_observed c.self.inside.files.items) at)) (λ at. IsTrue (is_among (entries_observed c.args.self.1) at)) _ _ _ _ c.in_err-files.field-0.0 p.0 (omega arith) c.in_err-files.ensures.reads.requests.count p.1 p.2
     (λ at h. subst (λ (value : List ℕ × List ScannedFile). IsTrue (is_among (entries_observed value.1) at)) c.self.view_is h) c.in_err-files.ensures.blame
 
 pub returns-clause-answered : goal.returns-clause-answered
@@ -19,6 +19,6 @@ returns-clause-answered g c = λ first before observed.
     let F = g.F.Folder in
     let files = c.self.inside.files.items in
     let reported = c.in_ok-files.ensures.answered first before
-    (subst (λ (value : List ℕ × List ScannedFile). WereObserved F.failures F.may_leave F.allowed first c.args.folder.now value.1) (sym c.self.view_is) observed) in
-    subst (λ (value : List ℕ × List ScannedFile). IsTreeRead F.failures F.may_leave F.allowed first c.complete_all.new.folder (entries_observed value.1) c.new.result.1) c.self.view_is
-    (subst (λ (tree : List ℕ × Files). IsTreeRead F.failures F.may_leave F.allowed first c.complete_all.new.folder (entries_observed files) tree.1) (sym c.new.ensures) reported)
+    (subst (λ (value : List ℕ × List ScannedFile). WereObserved F.device first c.args.folder.now value.1) (sym c.self.view_is) observed) in
+    subst (λ (value : List ℕ × List ScannedFile). IsTreeRead F.device first c.complete_all.new.folder (entries_observed value.1) c.new.result.1) c.self.view_is
+    (subst (λ (tree : List ℕ × Files). IsTreeRead F.device first c.complete_all.new.folder (entries_observed files) tree.1) (sym c.new.ensures) reported)
