@@ -8,7 +8,8 @@
   src/, with the first sentence of each file's head, and a table of the files of its specs/, with the first
   sentence of each file's first comment. lib.rt and Lib.antt are left out of the tables.
 - docs/CALLS.md: the public types and calls of the crates in PUBLIC, each call with its signature, its comment
-  and its clauses.
+  and its clauses; and, of other modules, what these hand on and the types that they name.
+- docs/FAULTS.md, the list of all faults, from its headings.
 """
 import os
 import re
@@ -49,6 +50,18 @@ PUBLIC = {
     "gb_core": None,
 }
 WIDTH = 110
+# What the faults are about whose number is not above this one.
+FAULTS = {
+    3: "Names, places and memory",
+    14: "Files and folders",
+    23: "The text of a script",
+    37: "Values",
+    43: "Actions",
+    59: "Projects and tasks",
+    64: "The plan of a build",
+    72: "The files that a task reads",
+    96: "Other",
+}
 FILES = "| File | What it has |"
 DEFINITIONS = "| Definitions | What they say |"
 INTRODUCTION = """\
@@ -74,6 +87,7 @@ How to read an entry:
 - A clause *where contents are known* is about states in which `faithful` holds, such as all of one in memory.
 - A law is a call that does nothing at run time. Its clause is a fact for proofs.
 - Lines that begin with `impl` say which traits a type has, and what its parameters have to be.
+- `number` gives the number of a fault that users read. Below it are the numbers of all variants.
 
 [Names in proofs](DEFINITIONS.md#names-in-proofs) says what the words of formulas mean.
 """
@@ -218,6 +232,7 @@ class Call:
     signature: list
     comment: str
     clauses: list = field(default_factory=list)
+    numbers: list = field(default_factory=list)  # of the variants of a fault
 
 
 @dataclass
@@ -229,9 +244,12 @@ class Owner:
     calls: list = field(default_factory=list)
     definition: list = field(default_factory=list)
 
+    def name(self):
+        return self.title.split()[-1] if self.title else ""
+
 
 def public_modules(crate):
-    if PUBLIC[crate] is not None:
+    if PUBLIC.get(crate) is not None:
         return PUBLIC[crate]
     text = read(f"crates/{crate}/src/lib.rt")
     modules = re.findall(r"(?m)^pub mod (\w+);", text)
@@ -318,7 +336,7 @@ class Reader:
 
     def of_type(self, name):
         for owner in self.owners:
-            if owner.title and owner.title.split()[-1] == name:
+            if owner.name() == name:
                 return owner
         return self.owner(f"struct {name}")
 
@@ -333,6 +351,8 @@ class Reader:
         header, self.header = (self.header if nested and not in_trait else []), []
         call = Call(header + self.signature(), comment)
         call.clauses = self.clauses()
+        if line.strip().startswith("pub fn number("):
+            call.numbers = self.numbers()
         if not nested:
             self.owner("").calls.append(call)
         elif self.inside is not None:
@@ -379,6 +399,15 @@ class Reader:
                 sentence.append(bare[2:].strip())
             self.at += 1
         return clauses
+
+    def numbers(self):
+        """What the body that begins here gives for each variant: a number, or that of the fault in it."""
+        numbers = []
+        for line in self.lines[self.at : self.lines.index("    }", self.at)]:
+            arm = re.match(r"\s+\w+::(\w+)(?:\(.*?\))? => (?:(\d+)|\w+\.number\(\)),$", line)
+            if arm:
+                numbers.append(f"`{arm[1]}` {arm[2] or 'that of the fault in it'}")
+        return numbers
 
     def clause(self, begun):
         """A clause with its formula, up to the brace that closes it; whether the item ends with it."""
@@ -474,8 +503,9 @@ def contract_lines(clauses):
 def call_lines(call):
     lines = [""] + ["    " + line for line in call.signature]
     comment = comment_lines(call.comment)
+    numbers = filled("Numbers: " + ", ".join(call.numbers) + ".") if call.numbers else []
     contract = contract_lines(call.clauses)
-    for part in (comment, contract):
+    for part in (comment, numbers, contract):
         if part:
             lines += [""] + part
     return lines
@@ -505,27 +535,109 @@ def handed_on(crate, text):
     """The names that a file hands on: a line for each other crate, and for each module of its own crate."""
     names = {}
     for path, group, other in re.findall(r"(?ms)^pub use ([\w:]+?)(?:::\{(.*?)\})?(?: as (\w+))?;", text):
-        parts = [part.strip() for part in group.split(",") if part.strip()] or [other or path.split("::")[-1]]
+        own = path.split("::")[-1]
+        alone = f"`{other}`, which is `{own}` there" if other else f"`{own}`"
+        parts = [f"`{part.strip()}`" for part in group.split(",") if part.strip()] or [alone]
         first = path.removeprefix("crate::").split("::")[0]
         is_own = os.path.exists(os.path.join(ROOT, f"crates/{crate}/src/{first}.rt"))
         names.setdefault(f"{crate}::{first}" if is_own else first, []).extend(parts)
     lines = ["", "It re-exports:", ""] if names else []
     for crate, parts in names.items():
-        lines += filled(f"of `{crate}`: " + ", ".join(f"`{part}`" for part in parts), "- ", "  ")
+        lines += filled(f"of `{crate}`: " + ", ".join(parts), "- ", "  ")
     return lines
 
 
-def place_of_private(crate, module):
-    """Where the names of a module are that is private."""
-    if re.search(rf"(?m)^pub mod {module};", read(f"crates/{crate}/src/lib.rt")):
+# What the listed calls name, and what listed modules hand on, of modules that are not listed
+
+IMPORT = r"(?ms)^(?:pub )?use ([\w:]+?)(?:::\{(.*?)\})?(?: as (\w+))?;"
+
+
+def path_of(name, text):
+    """The path by which a file imports a name, if it does."""
+    for path, group, other in re.findall(IMPORT, text):
+        for part in [f"{path}::{part.strip()}" for part in group.split(",") if part.strip()] or [path]:
+            own, _, alias = part.partition(" as ")
+            if name == (alias or other or own.split("::")[-1]):
+                return own.split("::")
+    return []
+
+
+def home(crate, module, name):
+    """The crate and the module that define the public type of this name in this module, if `gb` has it."""
+    if not os.path.exists(os.path.join(ROOT, f"crates/{crate}/src/{module}.rt")):
+        return None
+    text = read(f"crates/{crate}/src/{module}.rt")
+    if re.search(rf"(?m)^pub (?:struct|enum|trait|type|const) {name}\b", text):
+        return crate, module
+    path = path_of(name, text)
+    if not path:
+        return None
+    return home(crate if path[0] == "crate" else path[0], "::".join(path[1:-1]) or "lib", path[-1])
+
+
+def names_in(owner):
+    """The names of types in the definition of a type and in the signatures of its calls."""
+    lines = owner.definition + [line for call in owner.calls for line in call.signature]
+    code = [line for line in lines if not re.match(r"\s*(///|(pub )?ghost )", line)]
+    return sorted(set(re.findall(r"\b[A-Z]\w*", "\n".join(code))))
+
+
+def handed_calls(modules):
+    """The calls that listed modules hand on from modules of their own crate that are not listed."""
+    found = {}
+    for crate, module in modules:
+        pattern = r"(?m)^pub use crate::(\w+)::(\w+);"
+        for other, name in re.findall(pattern, read(f"crates/{crate}/src/{module}.rt")):
+            if (crate, other) not in modules:
+                found.setdefault((crate, other), []).append(name)
+    return found
+
+
+def named_items():
+    """What is handed on, and the types that listed calls and types name and that no listed module has: also
+    those that the found ones name. By crate and module."""
+    modules = [(crate, module) for crate in PUBLIC for module in public_modules(crate)]
+    found = handed_calls(modules)
+    left = [(*at, owner) for at in [*modules, *found] for owner in owners_of(*at, found.get(at))]
+    while left:
+        crate, module, owner = left.pop(0)
+        for name in names_in(owner):
+            at = home(crate, module, name)
+            if at and at not in modules and name not in found.setdefault(at, []):
+                found[at].append(name)
+                left += [(*at, other) for other in owners_of(*at, [name])]
+    return found
+
+
+def owners_of(crate, module, names=None):
+    """The types of a module with their calls, and its functions: those of these names, or all."""
+    owners = Reader(read(f"crates/{crate}/src/{module}.rt")).items()
+    for owner in owners if names is not None else []:
+        if not owner.title:
+            calls = [(re.search(r"\bfn (\w+)", "\n".join(call.signature)), call) for call in owner.calls]
+            owner.calls = [call for name, call in calls if name and name[1] in names]
+    return [owner for owner in owners if names is None or owner.name() in ["", *names]]
+
+
+def place_of_private(crate, module, names):
+    """Where the names of a module are that is private. `names`: the types that are listed of it, or all."""
+    text = read(f"crates/{crate}/src/lib.rt")
+    if re.search(rf"(?m)^pub mod {module};", text):
         return []
+    for other in public_modules(crate):
+        if re.search(rf"(?m)^pub use crate::{module}::", read(f"crates/{crate}/src/{other}.rt")):
+            return ["", f"The module is private: its names are those of `{crate}::{other}`."]
+    if names and not any(path_of(name, text) for name in names):
+        own = "other crates can hold values of its types, but not write their names"
+        return ["", f"The module is private: {own}."]
     return ["", f"The module is private: its names are those of `{crate}` itself."]
 
 
-def module_lines(crate, module, heads):
+def module_lines(crate, module, heads, names=None):
+    """The entries of a module: of these types, or of all that is public."""
     path = f"crates/{crate}/src/{module}.rt"
-    owners = Reader(read(path)).items()
-    body = place_of_private(crate, module) + handed_on(crate, read(path))
+    owners = owners_of(crate, module, names)
+    body = place_of_private(crate, module, names) + (handed_on(crate, read(path)) if names is None else [])
     for owner in owners:
         if not owner.title:
             body += ["", "**functions**"] if len(owners) > 1 and owner.calls else []
@@ -547,7 +659,9 @@ def module_lines(crate, module, heads):
 
 def calls_page():
     lines = INTRODUCTION.rstrip("\n").split("\n") + [""]
-    heads = {crate: plain(paragraph(head_of(f"crates/{crate}/src/lib.rt", "//!"))) for crate in PUBLIC}
+    named = named_items()
+    crates = [*PUBLIC, *sorted({crate for crate, _ in named} - set(PUBLIC))]
+    heads = {crate: plain(paragraph(head_of(f"crates/{crate}/src/lib.rt", "//!"))) for crate in crates}
     # `From` says where `?` may turn one fault into another.
     known = traits() | {"From"}
     for crate, head in heads.items():
@@ -555,13 +669,45 @@ def calls_page():
     for crate, head in heads.items():
         lines += ["", f"## {crate}", ""] + filled(head)
         lines += handed_on(crate, read(f"crates/{crate}/src/lib.rt"))
-        for module in public_modules(crate):
-            lines += module_lines(crate, module, implemented(crate, known))
+        listed = {module: None for module in public_modules(crate)} if crate in PUBLIC else {}
+        listed.update({module: names for (other, module), names in named.items() if other == crate})
+        for module, names in listed.items():
+            lines += module_lines(crate, module, implemented(crate, known), names)
     return "\n".join(lines) + "\n"
 
 
+# The list of faults
+
+
+def fault_link(heading):
+    """A link to the section of a fault: its number and its words, without the letters of the heading."""
+    place = re.sub(r"[^\w\- ]", "", heading.lower()).replace(" ", "-")
+    kept = [word for word in heading.split() if not re.fullmatch(r"[A-Z]+(:[A-Z])?,?|:\w,?", word)]
+    words = kept if len(kept) > 1 else [*kept, "an action failed"]
+    return f"[{' '.join(words)}](#{place})"
+
+
+def faults_page():
+    """docs/FAULTS.md, in which the list from `**All faults.**` up to the next paragraph in bold is made."""
+    text = read("docs/FAULTS.md")
+    headings, items, least = re.findall(r"(?m)^## (\d+ .*)$", text), [], 0
+    for most, about in FAULTS.items():
+        links = [fault_link(heading) for heading in headings if least < int(heading.split()[0]) <= most]
+        # No line ends within a link.
+        item = filled(f"{about}: {', '.join(links)}".replace(" ", "\0").replace(",\0", ", "), "- ", "  ")
+        items += [line.replace("\0", " ") for line in item]
+        least = most
+    begin = "**All faults.** (`bench/made.py --write` makes this list.)"
+    made = "\n".join([begin, "", *items, "", "**Reading"])
+    return re.sub(r"(?s)\*\*All faults\.\*\*[^\n]*\n.*?\n\*\*Reading", lambda _: made, text)
+
+
 def main(words):
-    pages = {"docs/CRATES.md": crates_page().rstrip("\n") + "\n", "docs/CALLS.md": calls_page()}
+    pages = {
+        "docs/CRATES.md": crates_page().rstrip("\n") + "\n",
+        "docs/CALLS.md": calls_page(),
+        "docs/FAULTS.md": faults_page(),
+    }
     status = 0
     for path, text in pages.items():
         there = read(path) if os.path.exists(os.path.join(ROOT, path)) else ""

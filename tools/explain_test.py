@@ -107,6 +107,12 @@ def cures_of_tasks():
     check("55: forms", shaped.explain(REFUSED.format("55 bad shape :t")), [
         "`sums` reads `src`", "`a` is both `input` and `inputFiles`"])
     named = Folder(build='register compile { }\nregister t { outputFile made = file("build/a") }\n')
+    line = 'register t { doLast printLine("' + "y" * 200 + '".zip(nope, concat)) }'
+    long = Folder(build=f"property a\n{line}\n")
+    ran = long.explain(REFUSED.format("54 unknown property nope"))
+    check("54 in a long line", ran, ["build.gb:2: .. y", "zip(nope, concat)"], ["register t"])
+    ran = long.explain(REFUSED.format("20 syntax build.gb:2"))
+    check("20 in a long line", ran, ["build.gb:2: register t", "yyy ..\n"])
     check("52", named.explain(REFUSED.format("52 task not found complie")), ["did you mean compile?", cured])
     ran = named.explain(REFUSED.format("59 unknown output :t out"))
     check("59", ran, ["the outputs of :t are made", cured])
@@ -135,7 +141,7 @@ def cures_of_tasks():
         check("42 of a long text", site.explain(FAILED.format("", f"42 {text}")), [FAIL])
     placed = Folder(build='register t {\n  inputFiles a from dir(".")\n  input b = p.map(upper)\n}\n')
     ran = placed.explain(REFUSED.format("2 bad place ."))
-    check("2", ran, ["build.gb:2: "], ["build.gb:3: "])
+    check("2", ran, ["build.gb:2: ", "(docs/FAULTS.md#95-"], ["build.gb:3: "])
     ran = placed.explain(REFUSED.format("2 bad place "))
     check("2 of an empty text", ran, ["is no place"], ["build.gb:2: "])
     worded = Folder(build=TASK + 'register u { outputDir out = "build/u" }\n')

@@ -41,8 +41,8 @@ MOST_LINES, MOST_FAULTS, MOST_PROJECTS, MOST_BLOCKS = 4, 20, 256, 64
 MOST_NAMES, MOST_ABOVE, MOST_ENTRIES = 5_000, 100, 50_000
 # The bytes of a script and of all scripts; the characters that are read of a fault.
 SCRIPT, SCRIPTS, DETAIL = 1 << 20, 4 << 20, 4_000
-# The characters of the text of an action that are compared.
-MOST_OF_TEXT = 300
+# The characters of the text of an action that are compared, and of a line that are shown.
+MOST_OF_TEXT, SHOWN = 300, 90
 
 
 def read(path, most=SCRIPTS, flags=0):
@@ -67,8 +67,9 @@ class Entry:
         text = body.split("\n```", 1)[0]
         parts = [part.strip() for part in re.split(r"\n(?:\n|(?=- ))", text) if part.strip()]
         rows = [row for part in parts if part.startswith("|") for row in cells_of(part)]
-        self.signs = [(spans(row[0]), plain(row[1])) for row in rows]
-        self.parts = [plain(" ".join(part.split())) for part in parts if not part.startswith("|")]
+        self.signs = [(spans(row[0]), plain(row[1], "FAULTS.md")) for row in rows]
+        parts = [" ".join(part.split()) for part in parts if not part.startswith("|")]
+        self.parts = [plain(part, "FAULTS.md") for part in parts]
 
     def parts_for(self, detail):
         """The parts, with the words of the fault in place of the letters of the heading."""
@@ -76,9 +77,19 @@ class Entry:
         return [with_values(part, values) for part in self.parts]
 
 
-def plain(text):
-    """A text without the marks of its links."""
+def plain(text, name):
+    """A text of the document of this name without the marks of its links."""
+    text = text.replace("](#", f"]({name}#")
     return re.sub(r"\[([^\]]*)\]\(([^)]*)\)", r"\1 (docs/\2)", text)
+
+
+def cut(line, pattern=None):
+    """A line, or of a long one a part, with that of a pattern; `..` is where it is cut."""
+    line = line.strip()
+    found = re.search(pattern, line) if pattern and len(line) > SHOWN else None
+    start = max(0, found.end() - SHOWN, found.start() - SHOWN // 2) if found and found.end() > SHOWN else 0
+    part = line[start:start + SHOWN]
+    return ".. " * (start > 0) + part + " .." * (start + SHOWN < len(line))
 
 
 def values_of(title, detail):
@@ -155,13 +166,13 @@ def reasons_of_sites(text):
     """Why a kind of gb_site fails with a text, by the row of docs/SITE.md that has such a text."""
     if len(text) > MOST_OF_TEXT:
         return []
-    part = below("## The kinds", "SITE.md").partition("| Text | Why |\n")[2].replace("](#", "](SITE.md#")
+    part = below("## The kinds", "SITE.md").partition("| Text | Why |\n")[2]
     for first, why in re.findall(r"(?m)^\| (`.*?) \| (.*) \|$", part):
         for example in spans(first):
             parts = [re.escape(part) for part in re.split(rf"({NAMED_IN_TEXTS})", example)]
             parts[1::2] = [r"\d+" if part.isdigit() else ".+" for part in parts[1::2]]
             if re.fullmatch("".join(parts), text):
-                whole = f"docs/SITE.md on `{example}`: {plain(why)}"
+                whole = f"docs/SITE.md on `{example}`: {plain(why, 'SITE.md')}"
                 return textwrap.wrap(whole, 104, break_long_words=False, break_on_hyphens=False)
     return []
 
@@ -246,7 +257,7 @@ class Scripts:
     def lines_with(self, pattern, places=None):
         """Where a pattern is found, at most some lines; of all scripts, or of these."""
         found = [
-            f"{place}:{number}: {line.strip()[:90]}"
+            f"{place}:{number}: {cut(line, pattern)}"
             for place, text in self.texts.items()
             if (places is None or place in places) and re.search(pattern, text)
             for number, line in enumerate(text.split("\n"), 1)
@@ -331,7 +342,7 @@ def of_gradle(is_meant):
     for row in tables("FROM_GRADLE.md"):
         span = next(filter(is_meant, spans(row[0])), None)
         if span is not None and len(row) == 2:
-            found.append(f"for Gradle's `{span}` gb has: {plain(row[1])}")
+            found.append(f"for Gradle's `{span}` gb has: {plain(row[1], 'FROM_GRADLE.md')}")
     return found[:MOST_LINES]
 
 
@@ -447,13 +458,13 @@ def of_line_above(here, place, number):
     lacks_is = first and first[0] in ("onlyIf", "upToDateWhen") and not re.search(r"\bis\b", end)
     if not end.endswith((",", "=", ".", ":")) and not lacks_is:
         return []
-    line = here.line(place, above).strip()[:90]
+    line = cut(here.line(place, above))
     return [f"the line above is not complete: {place}:{above}: {line}"] + forms_of(here, place, above)
 
 
 def of_syntax(entry, here, place, number):
     line = here.line(place, number)
-    shown = [f"{place}:{number}: {line.strip()[:90]}"] if line.strip() else []
+    shown = [f"{place}:{number}: {cut(line)}"] if line.strip() else []
     hints = []
     if here.texts.get(place, "").startswith("\ufeff"):
         hints.append("the file begins with a byte order mark")
@@ -649,7 +660,7 @@ def lines_of_text_roots(here):
         (place, text.count("\n", 0, at) + 1) for place, text in here.texts.items() for at in text_roots(text)
     )
     some = itertools.islice(found, MOST_LINES)
-    return [f"{place}:{number}: {here.line(place, number).strip()[:90]}" for place, number in some]
+    return [f"{place}:{number}: {cut(here.line(place, number))}" for place, number in some]
 
 
 def of_value(here, path):
@@ -695,7 +706,7 @@ def where(number, word, detail, here):
     """The lines of the scripts, or what is on the disk, that a fault is about."""
     script = re.search(r" (\S+):(\d{1,7})$", detail, re.ASCII)
     if number == "22" and script:
-        return [f"{script[1]}:{script[2]}: {here.line(script[1], int(script[2])).strip()[:90]}"]
+        return [f"{script[1]}:{script[2]}: {cut(here.line(script[1], int(script[2])))}"]
     if number in ("10", "12", "13", "14"):
         return of_place(number, detail.split(" ", {"14": 4, "13": 3}.get(number, 2))[-1])
     if number == "90":
