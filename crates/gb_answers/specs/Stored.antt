@@ -1,5 +1,6 @@
 -- Records stay true on any folder that keeps its calls, whoever else writes there.
-use Rattle.std.specs.Prelude.{ℕ, ◌≡◌, ◌++◌, true, false, List, [], ◌∷◌, map, Result, Ok, Err, Contains, IsTrue, ⊤}
+use Rattle.std.specs.Prelude.{ℕ, ◌≡◌, ◌++◌, true, false, List, [], ◌∷◌, map, Result, Ok, Err, Contains}
+use Rattle.std.specs.Prelude.{IsTrue, ⊤}
 use Rattle.std.specs.List.{AllByRecursion, AllZip, flat_map}
 use Rattle.sha2.specs.Sha256.{sha256}
 use Rattle.gb_action.specs.Files.{Trees}

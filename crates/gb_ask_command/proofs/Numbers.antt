@@ -1,5 +1,5 @@
 -- The numbers of those of some tasks that are in a plan.
-use Rattle.std.proofs.Common.{ℕ, zero, suc, ◌≡◌, ◌<◌, Bool, true, false, cond, ◌||◌, List, [], ◌∷◌, Option, Some, None, length, get_or, map, refl, ap, ap₂, sym, ◌∙◌, arith}
+use Rattle.std.proofs.Common.{ℕ, zero, suc, ◌≡◌, ◌<◌, Bool, true, false, cond, ◌||◌, List, [], ◌∷◌, Option, Some, None, length, map, refl, ap, ap₂, sym, ◌∙◌, arith}
 use Rattle.std.specs.Prelude.{bytes_eq, slice_get, slice_index_or, unwrap_or}
 use Rattle.std.specs.List.{cons_option, filter, list_any}
 use Rattle.std.specs.Cmp.Lexicographic.{bytes_decides}

@@ -1,6 +1,6 @@
 -- The reply about scripts that were read is the reply to the arguments.
 use Rattle.std.specs.Prelude.{ℕ, ◌≡◌, ◌≤◌, ◌⊎◌, IsTrue, List, Result, Ok, Err, IfErr, IfOk, MatchResult, codes, string_bytes}
-use Rattle.std.proofs.Common.{ap, inl, inr, subst}
+use Rattle.std.proofs.Common.{inl, inr, subst}
 use Rattle.gb_declare.specs.Registered.{registry_said}
 use Rattle.gb_folder.specs.Files.{Contents, Place, is_special_under}
 use Rattle.gb_graph.specs.Answer.{IsRefusalOf}

@@ -1,5 +1,5 @@
 -- The graph of a plan.
-use Rattle.std.specs.Prelude.{ℕ, ◌≡◌, Bool, List, [], map, slice_get, string_bytes, true, unwrap_or}
+use Rattle.std.specs.Prelude.{ℕ, ◌≡◌, List, [], map, slice_get, string_bytes, unwrap_or}
 use Rattle.std.specs.List.{AllZip, filter}
 use Rattle.gb_graph.specs.Answer.{IsPlanOf}
 use Rattle.gb_picture.specs.Dot.{dot_text}

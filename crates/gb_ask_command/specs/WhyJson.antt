@@ -1,5 +1,5 @@
 -- The outcome of each task and the reasons for an execution, as JSON.
-use Rattle.std.specs.Prelude.{ℕ, Bool, List, [], ◌∷◌, Option, Some, None, codes, if◌then◌else◌, map}
+use Rattle.std.specs.Prelude.{ℕ, List, [], ◌∷◌, Option, Some, None, codes, if◌then◌else◌, map}
 use Rattle.serde_json.specs.Data.{Data, array, member, no_members, null, object, string}
 use Rattle.serde_json.specs.View.{items_of}
 use Rattle.gb_predict.specs.declared.predicted_outcome.PredictedOutcome.{PredictedOutcome}

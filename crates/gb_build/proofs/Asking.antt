@@ -1,6 +1,5 @@
 -- The calls that a build makes, from those of its parts.
-use Rattle.std.specs.Prelude.{◌≡◌, false, List, Option, Result, Ok, Err}
-use Rattle.std.specs.List.{AllZip}
+use Rattle.std.specs.Prelude.{◌≡◌, List, Result, Err}
 use Rattle.std.proofs.Common.{subst, sym}
 use Rattle.gb_action.specs.Meanings.{Meanings}
 use Rattle.gb_folder.specs.Calls.{Requests, no_change, Device}

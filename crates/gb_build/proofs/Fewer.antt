@@ -1,7 +1,6 @@
 -- Contents that were read before and are in the folder need not be counted twice.
-use Rattle.std.specs.Prelude.{◌≡◌, ◌||◌, ◌++◌, true, List, [], ◌∷◌, Contains, zero, suc, bytes_eq}
-use Rattle.std.specs.Cmp.Lexicographic.{bytes_decides}
-use Rattle.std.proofs.Common.{sym, ap, inl, inr, arith}
+use Rattle.std.specs.Prelude.{◌≡◌, ◌||◌, ◌++◌, List, [], ◌∷◌}
+use Rattle.std.proofs.Common.{inl, inr}
 use Rattle.gb_folder.specs.Files.{Bytes}
 use Rattle.gb_meaning.specs.Label.{Moment}
 use Rattle.gb_meaning.specs.Memory.{folder_contents}
@@ -9,10 +8,8 @@ use Rattle.gb_meaning.specs.Execution.{Builds, Guard, Rules, WorldState, Executi
 use Rattle.gb_meaning.proofs.Lemmas.Clear.{Among, found, in_left, in_one, in_right, listed}
 use Rattle.gb_meaning.proofs.Lemmas.Plain.{Spreads}
 use Rattle.gb_meaning.proofs.Existing.{with_execution}
-use Rattle.gb_plan.specs.Task.{has_path}
 use Rattle.gb_plan.specs.declared.plan.Planned.{Planned}
 use Rattle.gb_report.specs.declared.report.TaskReport.{TaskReport}
-use Rattle.std.proofs.lemmas.Map.Views.{Contains-from_any}
 use Rattle.gb_build.specs.Leading.{AreAmong}
 
 pub among_of : (some all : List Bytes) → AreAmong some all → Among some all

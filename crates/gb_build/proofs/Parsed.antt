@@ -1,7 +1,6 @@
 -- Texts that calls returned, and what they parse as.
 use Rattle.std.specs.Prelude.{ℕ, ◌≡◌, List, [], ◌∷◌, Option, Some, None, Result, Ok, Err, IfOk, MatchResult}
 use Rattle.std.proofs.Common.{ap, ◌∙◌}
-use Rattle.gb_folder.specs.Answers.{IsOnWay}
 use Rattle.gb_folder.specs.Calls.{Reads, Requests, no_change, Device}
 use Rattle.gb_folder.specs.Files.{Bytes, Place}
 use Rattle.gb_folder.specs.declared.folder.FolderFault.TheVariants as folders

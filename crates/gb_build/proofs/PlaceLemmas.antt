@@ -1,23 +1,21 @@
 -- The places of the scripts of projects.
-use Rattle.std.proofs.Common.{◌≡◌, ℕ, suc, ◌+◌, ◌-◌, ◌<◌, ◌≤◌, Bool, true, false, not, cond, ◌&&◌, ◌||◌, eqb, List, [], ◌∷◌, ◌++◌, length, drop, get_or, refl, sym, ap, subst, ◌∙◌, Option, Some, None, arith, length-append}
+use Rattle.std.proofs.Common.{◌≡◌, ℕ, suc, ◌+◌, ◌-◌, ◌<◌, ◌≤◌, Bool, true, false, not, cond, ◌&&◌, ◌||◌, eqb, List, [], ◌∷◌, ◌++◌, length, drop, get_or, refl, ap, ◌∙◌, Option, Some, None, arith, length-append}
 use Rattle.std.proofs.Math.Seq.{drop-append-add, get_or-append_seam}
 use Rattle.std.proofs.lemmas.Bool.Decides.{nat_tests}
 use Rattle.std.proofs.lemmas.List.{get_or-append_right}
 use Rattle.std.proofs.lemmas.List.Folds.{list_all-append}
 use Rattle.std.proofs.lemmas.List.Sums.{suffix_len_is}
 use Rattle.std.specs.Cmp.Lexicographic.{bytes_decides}
-use Rattle.std.specs.Prelude.{bytes_eq, codes, nat_le, nat_lt}
-use Rattle.std.specs.List.{after_last, flat_map, list_all, suffix_len}
+use Rattle.std.specs.Prelude.{bytes_eq, codes, nat_le}
+use Rattle.std.specs.List.{after_last, list_all, suffix_len}
 use Rattle.gb_core.proofs.BySegments.{segments-joined}
 use Rattle.gb_core.proofs.TaskPaths.{left_of, right_of}
-use Rattle.gb_core.specs.Path.{is_project_path, is_task_path, task_name}
+use Rattle.gb_core.specs.Path.{is_task_path}
 use Rattle.gb_core.specs.Place.{is_place, is_printable, is_segment, segments}
 use Rattle.gb_folder.specs.Files.{Place}
-use Rattle.gb_report.specs.declared.fault.Fault.{Fault}
-use Rattle.gb_report.specs.declared.fault.Fault.TheVariants as faults
-use Rattle.gb_registry.proofs.Fine.{AreFine, both_true, fits, is_fine, nil_back, nil_prefix, projects_fine, short_enough}
-use Rattle.gb_registry.proofs.Folders.{folder_is_place, lineage_is_good}
-use Rattle.gb_registry.specs.Projects.{Path, absolute, crowd_faults, folder_of, folder_text, included, is_among, lineage_of, path_faults, paths_faults, place_faults, project_paths, projects_of, root_path, settings_faults, text_faults, texts_faults, with_folders, with_path, with_paths}
+use Rattle.gb_registry.proofs.Fine.{AreFine, both_true, fits, is_fine, projects_fine, short_enough}
+use Rattle.gb_registry.proofs.Folders.{folder_is_place}
+use Rattle.gb_registry.specs.Projects.{Path, folder_of, folder_text, project_paths, projects_of, root_path, settings_faults, with_folders}
 use Rattle.gb_store.specs.Changes.{is_at}
 use Rattle.gb_build.specs.Scripts.{is_script_place, script_place, script_places}
 

@@ -1,7 +1,7 @@
 -- The calls that events make, over any folder.
-use Rattle.std.specs.Prelude.{◌≡◌, ◌⊎◌, List, [], ◌∷◌, Result, Ok, Err}
+use Rattle.std.specs.Prelude.{◌≡◌, ◌⊎◌, List, [], ◌∷◌, Result, Ok}
 use Rattle.gb_folder.specs.Calls.{Requests, Call, Removes, Writes, no_change, takes_at, Device}
-use Rattle.gb_folder.specs.Files.{Bytes, Place, is_own}
+use Rattle.gb_folder.specs.Files.{is_own}
 use Rattle.gb_folder.specs.Limits.{max_file}
 use Rattle.gb_folder.specs.declared.folder.FolderFault.{FolderFault}
 use Rattle.gb_meaning.specs.declared.events.Answer.{Answer}

@@ -62,8 +62,8 @@ pub record KeepsPromise {M F Z S A : Type 0} (tables : Tables M F Z S A) (may_le
   -- from any true records that the folder holds, it is a run of one event by the definitions
   pub holds : (kinds : Kinds) → IsAssumed tables.shapes tables.kinds kinds may_leave
       → InvocationHolds (setting_of tables kinds may_leave) old invocation answer new
-  -- So, if no two contents share a digest, it is a step of the definition, and a build in which no task failed
-  -- leaves outside `.gb` what a build from scratch makes, whichever true records it starts from.
+  -- So, if no two contents share a digest, it is a step of the definition, and a build in which no task
+  -- failed leaves outside `.gb` what a build from scratch makes, whichever true records it starts from.
   pub promise : (kinds : Kinds) → IsAssumed tables.shapes tables.kinds kinds may_leave
       → PromiseHolds (setting_of tables kinds may_leave) old (events.Invoke invocation ∷ [])
       (answer_of answer ∷ []) new

@@ -1,7 +1,7 @@
 //! Edits from outside.
 ghost use Rattle.std.specs.Prelude.{◌≡◌, ◌≤◌, MatchResult};
 ghost use Rattle.gb_folder.specs.Files.{SameTearing, is_own};
-ghost use Rattle.gb_folder.specs.Calls.{Requests, Removes, Writes, takes_at};
+ghost use Rattle.gb_folder.specs.Calls.{Removes, Requests, WhereKnown, Writes, takes_at};
 ghost use Rattle.gb_folder.specs.Limits.{max_file};
 ghost use Rattle.gb_meaning.specs.Edits.{LossStep, PutStep, RemoveStep, own_place};
 ghost use Rattle.gb_store.specs.Changes.{ChangesOnly};
@@ -71,8 +71,7 @@ pub fn remove<F: Folder>(folder: &mut F, place: &Place) -> Result<(), Fault>
 pub fn lose<F: Folder>(alloc: Global, folder: &mut F) -> Result<(), Fault>
     ensures requests { Requests F.device (takes_at is_own) folder.old folder.new }
     ensures blame { Blames result (F.device.failures folder.old) (F.device.failures folder.new) }
-    ensures elsewhere { F.device.faithful folder.new
-        → ChangesOnly is_own (F.device.contents folder.old) (F.device.contents folder.new) }
+    ensures elsewhere { WhereKnown F.device folder.old folder.new (ChangesOnly is_own) }
     ensures step { F.device.faithful folder.new → LossStep (F.device.may_leave folder.old)
         (record { contents = F.device.contents folder.old; failures = F.device.failures folder.old })
         (edit_answer result)

@@ -1,5 +1,6 @@
 //! One build of what is requested.
 ghost use Rattle.std.specs.Prelude.{◌≡◌, ◌≤◌, Ok, map, true, IfErr, IfOk, OnErr};
+ghost use Rattle.gb_folder.specs.Calls.{WhereKnown};
 ghost use Rattle.gb_folder.specs.Files.{SameTearing};
 ghost use Rattle.gb_meaning.specs.declared.events.Event.TheVariants as events;
 ghost use Rattle.gb_meaning.specs.Headline.{HasFailed, HaveHeard, InvocationHolds};
@@ -76,9 +77,8 @@ pub fn build_requested<A: Actions, F: Folder, L: TaskListener, P: Printer, Ts: T
     ensures refused { F.device.faithful folder.new → OnErr result (F.device.contents folder.new
         ≡ F.device.contents folder.old) }
     // Nothing changes but `.gb` and the build folders of the registered projects.
-    ensures elsewhere { F.device.faithful folder.new → ChangesOnly (is_of_build
-        (Ts.registry tasks.old).projects)
-        (F.device.contents folder.old) (F.device.contents folder.new) }
+    ensures elsewhere { WhereKnown F.device folder.old folder.new
+        (ChangesOnly (is_of_build (Ts.registry tasks.old).projects)) }
     // It may follow any sequence of events: it is a step of the folder's history, if its scripts
     // register the tasks that are registered here.
     ensures leads { F.device.faithful folder.new → (kinds : Kinds) (registry_of : Registering)

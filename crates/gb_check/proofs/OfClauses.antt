@@ -2,17 +2,16 @@
 use Rattle.std.proofs.Common.{◌≡◌, ◌⊎◌, ◌++◌, ◌∷◌, Bool, true, false, List, [], Some, inl, inr, refl, subst, sym}
 use Rattle.std.specs.Prelude.{if◌then◌else◌}
 use Rattle.std.specs.List.{flat_map, list_any}
-use Rattle.gb_declare.specs.Declaring.{clash, clash_faults, clause_faults, clauses_faults, faults_within, heading, is_misshapen, main_faults, shape_faults}
-use Rattle.gb_declare.specs.Joined.{Joined, joined}
+use Rattle.gb_declare.specs.Declaring.{clash, clash_faults, clause_faults, clauses_faults, heading, is_misshapen, main_faults, shape_faults}
+use Rattle.gb_declare.specs.Joined.{joined}
 use Rattle.gb_plan.specs.Task.{Path}
 use Rattle.gb_registry.specs.Faults.{first_of}
-use Rattle.gb_registry.specs.Said.{Registered}
 use Rattle.gb_registry.specs.Tables.{Tables}
 use Rattle.gb_registry.specs.Wrong.{Scope}
 use Rattle.gb_report.specs.declared.fault.Fault.{Fault}
 use Rattle.gb_report.specs.declared.fault.Fault.TheVariants as faults
 use Rattle.gb_script.specs.declared.script.Clause.{Clause}
-use Rattle.gb_check.specs.OfClauses.{FaultsAreOfClauses, own_faults}
+use Rattle.gb_check.specs.OfClauses.{FaultsAreOfClauses}
 
 -- ---- The first of two rows
 

@@ -58,5 +58,5 @@ RealisedNamesRise tables source =
 -- the same of each declaration of the registry
 abbrev pub DeclaredNamesRise : {M F Z S A : Type 0} → Tables M F Z S A → Source → Type 0
 DeclaredNamesRise tables source =
-    (path : Path) (task : TaskDeclaration) → declaration_at (registry_said tables source) path ≡ Some (Ok task)
-    → HasRisingNames task
+    (path : Path) (task : TaskDeclaration)
+    → declaration_at (registry_said tables source) path ≡ Some (Ok task) → HasRisingNames task

@@ -13,8 +13,8 @@ use Rattle.gb_disk.specs.declared.call_log.CallLog.{CallLog}
 -- no file is at an ancestor folder of another, and each is at a valid place
 abbrev pub is_sound : Contents → Bool
 is_sound contents =
-    is_sorted byte_order contents.files && list_all (λ file. not (is_blocked contents.files file.0)) contents.files
-    && are_placed contents.files
+    is_sorted byte_order contents.files
+    && list_all (λ file. not (is_blocked contents.files file.0)) contents.files && are_placed contents.files
 
 -- no file
 abbrev pub nothing : Contents
@@ -63,7 +63,11 @@ placed_if contents true is = (both _ _ is).1
 placed_if contents false is = refl
 
 pub shown_folder : (log : CallLog) → IsFolder (shown log).files
-shown_folder log = let contents = get_or log.supposed.states (length log.calls) nothing in folder_if contents (is_sound contents) refl
+shown_folder log =
+    let contents = get_or log.supposed.states (length log.calls) nothing in
+    folder_if contents (is_sound contents) refl
 
 pub shown_placed : (log : CallLog) → IsTrue (are_placed (shown log).files)
-shown_placed log = let contents = get_or log.supposed.states (length log.calls) nothing in placed_if contents (is_sound contents) refl
+shown_placed log =
+    let contents = get_or log.supposed.states (length log.calls) nothing in
+    placed_if contents (is_sound contents) refl

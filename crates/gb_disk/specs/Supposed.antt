@@ -3,8 +3,8 @@ use Rattle.std.specs.Prelude.{List, MatchOption, Option, ⊤}
 use Rattle.std.specs.List.{Contains}
 use Rattle.gb_folder.specs.Files.{Bytes, Contents, Place, Tearing}
 
--- Contents before the first call and after each. And what stopped writes and removals may have left: the place,
--- what was there, what was to be there, and what is left, of each; without a list, anything.
+-- Contents before the first call and after each. And what stopped writes and removals may have left: of
+-- each the place, what was there, what was to be there, and what is left; without a list, anything.
 pub record Supposed : Type 0 where
   pub states : List Contents
   pub remains : Option (List (Place × Option Bytes × Option Bytes × Option Bytes))

@@ -61,8 +61,9 @@
 //! After a read, a write or a removal that succeeded, the path in use is that of the place (`at`, by
 //! `path_in`). A listing is in byte order and under its root, and a read returns no more than was
 //! asked. No clause is on the path of `create_dir`, or of what is removed under `.gb/new`: that is to
-//! be read in `device.rt` and `putting.rt`. No contract can say that links are not followed, that a read is of one file and
-//! that a write is whole, since the system's calls have no such contract. Tests show it.
+//! be read in `device.rt` and `putting.rt`. No contract can say that links are not followed, that a
+//! read is of one file and that a write is whole, since the system's calls have no such contract.
+//! Tests show it.
 //!
 //! That a remembered listing is in order and under its root is proved. That it is an earlier one of
 //! the same root, and that a change ends it, is tested.

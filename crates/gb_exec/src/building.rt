@@ -1,6 +1,7 @@
 //! A build of a plan.
 ghost use Rattle.std.specs.Prelude.{◌≡◌, ◌≤◌, Bool, List, true, not, map, length, IfOk, IsTrue, OnErr};
 ghost use Rattle.std.specs.List.{AllZip};
+ghost use Rattle.gb_folder.specs.Calls.{WhereKnown};
 ghost use Rattle.gb_folder.specs.Files.{Bytes, SameTearing};
 ghost use Rattle.gb_meaning.specs.Headline.{HasFailed, HaveHeard};
 ghost use Rattle.gb_meaning.specs.Kinds.{Kinds};
@@ -76,9 +77,7 @@ pub fn execute<A: Actions, F: Folder, L: TaskListener, P: Printer>(
     ensures device { IfOk result (λ report.
         HasFailed (times_blamed report.tasks) (F.device.failures folder.old) (F.device.failures folder.new)) }
     ensures dry { options.dry_run ≡ true → folder.new ≡ folder.old }
-    ensures changes { F.device.faithful folder.new
-        → ChangesOnly (is_of_executions plan.now) (F.device.contents folder.old)
-        (F.device.contents folder.new) }
+    ensures changes { WhereKnown F.device folder.old folder.new (ChangesOnly (is_of_executions plan.now)) }
     // Where contents are known and `IsAssumed` holds: if `AreTrueBefore` holds of the records, this is
     // a build of the plan by the definitions. If also `guard` holds of the contents so far (no two share a
     // digest, or nothing was remembered), the records of what is remembered exist after it.

@@ -3,6 +3,7 @@ ghost use Rattle.std.specs.Prelude.{◌≡◌, ◌≤◌, ◌<◌, ◌+◌, ◌+
 ghost use Rattle.std.specs.Prelude.{replicate, IsTrue, vec_len};
 ghost use Rattle.std.specs.List.{AllZip, flat_map};
 ghost use Rattle.std.specs.Vec.{vec_capacity};
+ghost use Rattle.gb_folder.specs.Calls.{WhereKnown};
 ghost use Rattle.gb_folder.specs.Files.{Bytes};
 ghost use Rattle.gb_meaning.specs.Events.{State};
 ghost use Rattle.gb_meaning.specs.Headline.{HasFailed};
@@ -86,9 +87,8 @@ pub(crate) fn execute_tasks<A: Actions, F: Folder, L: TaskListener, P: Printer>(
         folder.new }
     ensures device { HasFailed (times_blamed reports.new.items)
         (F.device.failures folder.old) (F.device.failures folder.new) }
-    ensures changes { F.device.faithful folder.new
-        → ChangesOnly (is_of_executions build.now.tasks.now) (F.device.contents folder.old)
-        (F.device.contents folder.new) }
+    ensures changes { WhereKnown F.device folder.old folder.new
+        (ChangesOnly (is_of_executions build.now.tasks.now)) }
     ensures build { F.device.faithful folder.new → (kinds : Kinds) (registry_of : Registering)
         (remembered : Memory)
         (clear : Bool) (observed : List Bytes)

@@ -2,7 +2,7 @@
 use Rattle.std.proofs.Common.{ℕ}
 use Rattle.gb_folder.specs.Answers.{IsOnWay, WereRead}
 use Rattle.gb_folder.specs.Calls.{Requests, Call, no_change}
-use Rattle.gb_folder.specs.Files.{Bytes, Place, Tearing}
+use Rattle.gb_folder.specs.Files.{Bytes, Place}
 use Rattle.gb_folder.proofs.Asked.{requests_nothing, requests_then}
 use Rattle.gb_folder.specs.Calls.{Device}
 

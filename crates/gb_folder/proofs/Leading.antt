@@ -1,5 +1,5 @@
 -- Sequences of calls, and what follows from them: over any folder, and over one with known contents.
-use Rattle.std.specs.Prelude.{◌≡◌, ◌≤◌, ◌++◌, List, [], ◌∷◌, Option, Some, None, Ok, Err, IsTrue}
+use Rattle.std.specs.Prelude.{◌≡◌, ◌≤◌, ◌++◌, List, [], ◌∷◌, Option, Some, None, Ok, Err}
 use Rattle.std.specs.List.{AllByRecursion}
 use Rattle.std.proofs.Common.{refl, sym, subst, arith}
 use Rattle.gb_folder.specs.Calls.{Device, Requests, Call, IsPermitted, Lists, Permit, Reads, ReadsPart, Removes, Writes}

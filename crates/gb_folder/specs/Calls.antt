@@ -85,6 +85,10 @@ takes_at test place next = IsTrue (test place) × (next ≡ None)
 unfoldable pub changes_at : (Place → Bool) → Permit
 changes_at test place next = IsTrue (test place)
 
+-- Where the contents are known, those before and after are in this relation.
+abbrev pub WhereKnown : {F : Type 0} → Device F → F → F → (Contents → Contents → Type 0) → Type 0
+WhereKnown device old new Relates = device.faithful new → Relates (device.contents old) (device.contents new)
+
 -- No change is requested, and known contents stay the same.
 pub record OnlyReads {F : Type 0} (device : Device F) (old new : F) : Type 0 where
   pub requests : Requests device no_change old new

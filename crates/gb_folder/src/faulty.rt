@@ -90,7 +90,8 @@ impl<F: Folder + Drop> FaultyFolder<F> {
         ensures plan { self.new.plan ≡ self.old.plan }
         ensures whole { tears self.old.plan ≡ false → self.new.inner ≡ self.old.inner }
         ensures count { F.device.failures self.old.inner ≤ F.device.failures self.new.inner }
-        ensures tearing { SameTearing (F.device.may_leave self.old.inner) (F.device.may_leave self.new.inner) }
+        ensures tearing { SameTearing (F.device.may_leave self.old.inner)
+            (F.device.may_leave self.new.inner) }
         ensures back { F.device.faithful self.new.inner → F.device.faithful self.old.inner }
         ensures torn { F.device.faithful self.new.inner → (next : List ℕ)
             → let files = (F.device.contents self.old.inner).files in

@@ -7,7 +7,6 @@ use Rattle.gb_disk.specs.Called.{IsAsSupposed, calls_of, contents_of, disk_devic
 use Rattle.gb_disk.specs.Called.{supposed_of}
 use Rattle.gb_disk.specs.declared.disk.DiskFolder.{DiskFolder}
 use Rattle.gb_folder.specs.Calls.{Requests, no_change}
-use Rattle.gb_meaning.specs.Edits.{Shown}
 use Rattle.gb_meaning.specs.declared.events.Invocation.{Invocation}
 use Rattle.gb_registry.specs.Tables.{Tables}
 use Rattle.gb_report.specs.declared.fault.Fault.{Fault}

@@ -1,7 +1,6 @@
 -- What a task's outcome is based on, as it was answered on a part of the way and on all of it.
 use Rattle.std.proofs.Common.{◌≡◌, ℕ, List, Option, Some, refl, sym, subst}
-use Rattle.gb_folder.specs.Calls.{Requests, Call, no_change}
-use Rattle.gb_folder.specs.Files.{Tearing}
+use Rattle.gb_folder.specs.Calls.{Requests, no_change}
 use Rattle.gb_history.specs.Decision.{DecidesFrom}
 use Rattle.gb_history.specs.Record.{Record}
 use Rattle.gb_history.specs.declared.decide.Decision.{Decision}

@@ -4,8 +4,8 @@ use Rattle.std.specs.List.{AllByRecursion, AllZip, zip}
 use Rattle.gb_action.specs.Files.{Trees}
 use Rattle.gb_action.specs.declared.output.OutputFiles.{OutputFiles}
 use Rattle.gb_folder.proofs.Asked.{requests_nothing, requests_then}
-use Rattle.gb_folder.specs.Calls.{Requests, Call, no_change}
-use Rattle.gb_folder.specs.Files.{Files, Tearing}
+use Rattle.gb_folder.specs.Calls.{Requests, no_change}
+use Rattle.gb_folder.specs.Files.{Files}
 use Rattle.gb_plan.specs.declared.task.FileProperty.{FileProperty}
 use Rattle.gb_plan.specs.declared.task.Output.{Output}
 use Rattle.gb_plan.specs.declared.task.TaskDeclaration.{TaskDeclaration as Task}

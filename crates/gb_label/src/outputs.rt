@@ -137,8 +137,8 @@ fn complete_one<F: Folder>(
         (entries_observed reading.1) made.0.files) }
     ensures files { F.device.faithful folder.new
         → AllByRecursion (IsObservedIn (F.device.contents folder.old).files) reading.1
-        → IfOk result
-        (λ made. made.0.files ≡ contents_at (F.device.contents folder.old).files (entries_observed reading.1)) }
+        → IfOk result (λ made. made.0.files
+        ≡ contents_at (F.device.contents folder.old).files (entries_observed reading.1)) }
     ensures err { F.device.faithful folder.new
         → AllByRecursion (IsObservedIn (F.device.contents folder.old).files) reading.1
         → IfErr result (IsOfMachine (F.device.failures folder.old) (F.device.failures folder.new)) }

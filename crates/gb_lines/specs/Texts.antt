@@ -1,5 +1,5 @@
 -- The output of a replay.
-use Rattle.std.specs.Prelude.{ℕ, Bool, ◌||◌, nat_eq, List, [], ◌∷◌, ◌++◌, Option, None, Some, if◌then◌else◌}
+use Rattle.std.specs.Prelude.{ℕ, ◌||◌, nat_eq, List, [], ◌∷◌, ◌++◌, Option, None, Some, if◌then◌else◌}
 use Rattle.std.specs.Prelude.{codes, decimal, length}
 use Rattle.std.specs.List.{ends_with, flat_map}
 use Rattle.gb_folder.specs.Files.{Files, Place, Bytes, file_at, is_empty, places_under}

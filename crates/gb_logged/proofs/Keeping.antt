@@ -1,8 +1,7 @@
 -- What is kept after one more call.
 use Rattle.std.proofs.Common.{◌≡◌, ℕ, List, [], ◌∷◌, ◌++◌, ap, ◌∙◌, inl, inr}
 use Rattle.std.proofs.lemmas.List.{map-append}
-use Rattle.gb_folder.specs.Calls.{Call, Writes, Removes}
-use Rattle.gb_folder.specs.Files.{Tearing}
+use Rattle.gb_folder.specs.Calls.{Writes, Removes}
 use Rattle.gb_folder.specs.Semantics.{Answer}
 use Rattle.gb_logged.specs.Logged.{call_of, log_of, log, allowed_over, LogsCalls}
 use Rattle.gb_logged.specs.declared.logged.LoggedCall.{LoggedCall}

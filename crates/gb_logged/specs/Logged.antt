@@ -2,7 +2,6 @@
 use Rattle.std.specs.Prelude.{ℕ, ◌≡◌, ◌⊎◌, List, [], ◌∷◌, ◌++◌, map, Some}
 use Rattle.gb_folder.specs.Calls.{Call, Lists, Reads, ReadsPart, Writes, Removes, Requests}
 use Rattle.gb_folder.specs.Calls.{fault_of, no_change}
-use Rattle.gb_folder.specs.Files.{Tearing}
 use Rattle.gb_folder.specs.declared.folder.FolderFault.TheVariants as folders
 use Rattle.gb_logged.specs.declared.logged.LoggedCall.{LoggedCall}
 use Rattle.gb_logged.specs.declared.logged.LoggedCall.TheVariants as kept

@@ -5,9 +5,9 @@ use Rattle.std.specs.List.{AllZip, list_any}
 use Rattle.std.proofs.lemmas.List.Folds.{list_any-append}
 use Rattle.gb_core.specs.declared.place.PlaceFault.{PlaceFault}
 use Rattle.gb_core.specs.declared.place.PlaceFault.TheVariants as places
-use Rattle.gb_folder.specs.Calls.{Requests, Call, no_change}
+use Rattle.gb_folder.specs.Calls.{Requests, no_change}
 use Rattle.gb_folder.proofs.Answering.{on_longer_way}
-use Rattle.gb_folder.specs.Files.{Bytes, Files, Place, Tearing}
+use Rattle.gb_folder.specs.Files.{Bytes, Files, Place}
 use Rattle.gb_folder.specs.declared.folder.FolderFault.{FolderFault}
 use Rattle.gb_folder.specs.declared.folder.FolderFault.TheVariants as folders
 use Rattle.gb_history.specs.Record.{Record}

@@ -1,7 +1,6 @@
 -- The calls at the place of a record.
 use Rattle.std.proofs.Common.{◌≡◌, ℕ, List, Some, ap, refl}
-use Rattle.gb_folder.specs.Calls.{Requests, Call, put_at, taken_at}
-use Rattle.gb_folder.specs.Files.{Tearing}
+use Rattle.gb_folder.specs.Calls.{Requests, put_at, taken_at}
 use Rattle.gb_folder.proofs.Asked.{requests_put, requests_taken}
 use Rattle.gb_folder.specs.Calls.{Device}
 

@@ -1,8 +1,8 @@
 -- What calls answered of a record, over any folder.
 use Rattle.std.specs.Prelude.{ℕ, Option, Some, None, Ok, ⊤}
 use Rattle.gb_folder.specs.Answers.{IsOnWay}
-use Rattle.gb_folder.specs.Calls.{Call, Reads}
-use Rattle.gb_folder.specs.Files.{Bytes, Tearing}
+use Rattle.gb_folder.specs.Calls.{Reads}
+use Rattle.gb_folder.specs.Files.{Bytes}
 use Rattle.gb_history.specs.Places.{record_place}
 use Rattle.gb_history.specs.Record.{Record}
 use Rattle.gb_meaning.specs.Events.{max_record}

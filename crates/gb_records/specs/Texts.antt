@@ -1,8 +1,8 @@
 -- What was read at the place of a task's record, before it is read as a record.
 use Rattle.std.specs.Prelude.{ℕ, ◌≡◌, ◌≤◌, [], Option, Some, None, Ok, ⊤, length}
 use Rattle.gb_folder.specs.Answers.{IsOnWay}
-use Rattle.gb_folder.specs.Calls.{Call, Reads}
-use Rattle.gb_folder.specs.Files.{Bytes, Files, Tearing, file_at}
+use Rattle.gb_folder.specs.Calls.{Reads}
+use Rattle.gb_folder.specs.Files.{Bytes, Files, file_at}
 use Rattle.gb_history.specs.Places.{record_place}
 use Rattle.gb_history.specs.Record.{Record}
 use Rattle.gb_history.specs.Text.{unsealed}
@@ -14,7 +14,8 @@ use Rattle.gb_folder.specs.Calls.{Device}
 -- the bytes are those of the record's file; if there are none, no record is there
 abbrev pub IsTextAt : Files → Path → Option Bytes → Type 0
 IsTextAt files path None = IsReadAt files path None
-IsTextAt files path (Some bytes) = (file_at files (record_place path) ≡ Some bytes) × (length bytes ≤ max_record)
+IsTextAt files path (Some bytes) =
+    (file_at files (record_place path) ≡ Some bytes) × (length bytes ≤ max_record)
 
 -- a read of the record's place on the way returned the bytes
 abbrev pub WasTextAnswered : {F : Type 0} → Device F → F → F → Path

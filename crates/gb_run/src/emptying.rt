@@ -2,7 +2,7 @@
 ghost use Rattle.std.specs.Prelude.{◌≡◌, ◌⊎◌, [], List, Some, IsTrue, IfOk, IfErr, OnOk};
 ghost use Rattle.std.specs.List.{list_all};
 ghost use Rattle.gb_core.specs.Lists.{first_of};
-ghost use Rattle.gb_folder.specs.Calls.{OnlyReads, Requests, Call, takes_at};
+ghost use Rattle.gb_folder.specs.Calls.{Call, OnlyReads, Requests, WhereKnown, takes_at};
 ghost use Rattle.gb_folder.specs.Device.{Leads};
 ghost use Rattle.gb_folder.specs.Each.{Each};
 ghost use Rattle.gb_folder.specs.Files.{Place};
@@ -38,8 +38,7 @@ pub fn empty_outputs<F: Folder>(
         folder.new }
     ensures blame { Blames result (F.device.failures folder.old) (F.device.failures folder.new) }
     ensures blamed { BlamesOnly (is_output_of task.now) result }
-    ensures changes { F.device.faithful folder.new
-        → ChangesOnly (is_output_of task.now) (F.device.contents folder.old) (F.device.contents folder.new) }
+    ensures changes { WhereKnown F.device folder.old folder.new (ChangesOnly (is_output_of task.now)) }
     ensures ok { F.device.faithful folder.new → OnOk result
         ((F.device.contents folder.new).files ≡ rest_of task.now (F.device.contents folder.old).files) }
     ensures none_special { F.device.faithful folder.new → OnOk result

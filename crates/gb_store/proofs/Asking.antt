@@ -1,9 +1,9 @@
 -- What the removal of one of several places requests of a folder.
-use Rattle.std.proofs.Common.{◌≡◌, ◌<◌, ℕ, List, Option, None, length, get_or}
+use Rattle.std.proofs.Common.{◌≡◌, ◌<◌, ℕ, List, length, get_or}
 use Rattle.std.specs.Cmp.Lexicographic.{bytes_decides}
 use Rattle.std.proofs.Common.{refl}
-use Rattle.gb_folder.specs.Calls.{Requests, Call, taken_at, takes_at}
-use Rattle.gb_folder.specs.Files.{Place, Tearing}
+use Rattle.gb_folder.specs.Calls.{Requests, taken_at, takes_at}
+use Rattle.gb_folder.specs.Files.{Place}
 use Rattle.gb_folder.proofs.Asked.{requests_taken, take_at}
 use Rattle.gb_store.specs.Changes.{is_among, is_at}
 use Rattle.gb_store.proofs.Loops.{any_here}

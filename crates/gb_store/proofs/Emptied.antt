@@ -1,19 +1,17 @@
 -- Files are removed, place by place.
 use Rattle.std.proofs.Common.{◌≡◌, ℕ, Bool, true, false, cond, not, ◌&&◌, ◌||◌, List, [], ◌∷◌, ◌++◌, Option, Some, None, is_some, map, fold, refl, sym, ◌∙◌, ap}
-use Rattle.std.proofs.lemmas.Bool.{and_parts, not-true, false≢true}
-use Rattle.std.proofs.lemmas.Option.{none-some}
+use Rattle.std.proofs.lemmas.Bool.{false≢true}
 use Rattle.std.proofs.lemmas.List.Folds.{list_any-append}
 use Rattle.std.specs.Cmp.{unsigned_ties}
 use Rattle.std.specs.Cmp.Lexicographic.{slice_cmp, lists_ties, bytes_decides}
-use Rattle.std.specs.List.{AllByRecursion, list_any, list_all, flat_map}
+use Rattle.std.specs.List.{AllByRecursion, list_any, flat_map}
 use Rattle.std.specs.Ordering.{nat_cmp, is_eq}
 use Rattle.std.specs.Prelude.{bytes_eq}
 use Rattle.gb_core.specs.Place.{is_under}
 use Rattle.gb_folder.specs.Files.{Place, Files, IsFolder, file_at, files_under, files_where, is_blocked, places_under, without}
 use Rattle.gb_folder.proofs.Free.{free_at}
 use Rattle.gb_folder.proofs.Changes.{file_at-files_where, file_at-without, same_files}
-use Rattle.gb_folder.proofs.Held.{equal_from}
-use Rattle.gb_folder.proofs.Sound.{sound_where, same_from}
+use Rattle.gb_folder.proofs.Sound.{sound_where}
 
 -- removing a place without a file changes nothing
 pub without_none : (files : Files) (place : Place) → IsFolder files → file_at files place ≡ None → without files place ≡ files

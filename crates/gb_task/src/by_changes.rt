@@ -2,7 +2,7 @@
 ghost use Rattle.std.specs.Prelude.{◌≡◌, ◌≤◌, [], List, false, true, map, IfOk, IfErr, OnOk};
 ghost use Rattle.std.specs.List.{AllByRecursion};
 ghost use Rattle.gb_action.specs.Files.{Trees};
-ghost use Rattle.gb_folder.specs.Calls.{Requests, Call, changes_at};
+ghost use Rattle.gb_folder.specs.Calls.{Call, Requests, WhereKnown, changes_at};
 ghost use Rattle.gb_folder.specs.Device.{Leads};
 ghost use Rattle.gb_label.specs.Deciding.{HasNamesInOrder};
 ghost use Rattle.gb_label.specs.Reading.{digests_in, prints_observed, observed_of};
@@ -73,8 +73,7 @@ pub(crate) fn run_by_decided_changes<A: Actions, F: Folder>(
     ensures count { F.device.failures folder.old ≤ F.device.failures folder.new }
     ensures blame { Blames result (F.device.failures folder.old) (F.device.failures folder.new) }
     ensures blamed { BlamesOnly (is_output_of task.now) result }
-    ensures changes { F.device.faithful folder.new
-        → ChangesOnly (is_of_execution task.now) (F.device.contents folder.old) (F.device.contents folder.new) }
+    ensures changes { WhereKnown F.device folder.old folder.new (ChangesOnly (is_of_execution task.now)) }
     // Where the incremental run by these changes is due, this is the task's execution.
     ensures execution { F.device.faithful folder.new → (kinds : Kinds) (registry_of : Registering)
         (options : Options)
@@ -132,8 +131,7 @@ fn make_by_changes<A: Actions, F: Folder>(
     // run.
     ensures made { IfOk result
         (IsOfRunByChanges A.meanings table.now task.now inputs.trees changes outputs.observed) }
-    ensures changes { F.device.faithful folder.new
-        → ChangesOnly (is_output_of task.now) (F.device.contents folder.old) (F.device.contents folder.new) }
+    ensures changes { WhereKnown F.device folder.old folder.new (ChangesOnly (is_output_of task.now)) }
     ensures ok { F.device.faithful folder.new → OnOk result ((kinds : Kinds)
         → Agrees A.meanings table.now kinds
         → (old : Trees)

@@ -60,7 +60,8 @@ pub(crate) fn prepare_by_seen<F: Folder>(
         → AreSeen F.device since folder.old seen.old
         → AreSeen F.device since folder.new seen.new }
     ensures prepared { F.device.faithful folder.new → AreSeenIn (F.device.contents folder.old).files seen.old
-        → IfOk result (IsPrepared options task.now (F.device.contents folder.old) (option_copied last.entry)) }
+        → IfOk result
+        (IsPrepared options task.now (F.device.contents folder.old) (option_copied last.entry)) }
     ensures observed { F.device.faithful folder.new → AreSeenIn (F.device.contents folder.old).files seen.old
         → IfOk result (IsObserved task.now (F.device.contents folder.old).files) }
     ensures seen_in { F.device.faithful folder.new → AreSeenIn (F.device.contents folder.old).files seen.old

@@ -3,7 +3,7 @@ ghost use Rattle.std.specs.Prelude.{◌≡◌, ◌≤◌, ◌≢◌, ◌⊎◌, 
 ghost use Rattle.std.specs.Prelude.{option_copied};
 ghost use Rattle.std.specs.List.{AllByRecursion};
 ghost use Rattle.gb_action.specs.Changes.{Changes};
-ghost use Rattle.gb_folder.specs.Calls.{Requests, no_change};
+ghost use Rattle.gb_folder.specs.Calls.{Requests, WhereKnown, no_change};
 ghost use Rattle.gb_folder.specs.Files.{HasRisen, is_empty};
 ghost use Rattle.gb_label.specs.Answered.{WasDecided};
 ghost use Rattle.gb_label.specs.Looking.{lacks_source};
@@ -98,8 +98,7 @@ pub fn execute_task<A: Actions, F: Folder>(
     ensures alone { IsAnsweredAlone task.now.runs (is_empty task.now.actions) has_executed_need
         result.outcome }
     ensures answer { IsAnswer options task.now result }
-    ensures changes { F.device.faithful folder.new
-        → ChangesOnly (is_of_execution task.now) (F.device.contents folder.old) (F.device.contents folder.new) }
+    ensures changes { WhereKnown F.device folder.old folder.new (ChangesOnly (is_of_execution task.now)) }
     ensures seen_in { F.device.faithful folder.new → AreSeenIn (F.device.contents folder.old).files seen.old
         → AreSeenIn (F.device.contents folder.new).files seen.new }
     // Where contents are known and kinds agree: if what was read is the record of what is
@@ -174,8 +173,7 @@ fn run<A: Actions, F: Folder>(
         → HasRisen (F.device.failures folder.old) (F.device.failures folder.new) }
     ensures blamed { (place : List ℕ) → result.outcome ≡ Failed (Fault.Device place)
         → IsTrue (is_input_of task.now place || is_output_of task.now place) }
-    ensures changes { F.device.faithful folder.new
-        → ChangesOnly (is_of_execution task.now) (F.device.contents folder.old) (F.device.contents folder.new) }
+    ensures changes { WhereKnown F.device folder.old folder.new (ChangesOnly (is_of_execution task.now)) }
     ensures execution { F.device.faithful folder.new → (kinds : Kinds) (registry_of : Registering)
         (plan : Plan) (moment : Moment) → IsAssumed A.meanings table.now kinds (F.device.may_leave folder.old)
         → BeginsAt task.now (is_some (option_copied last.entry)) (F.device.contents folder.old)

@@ -1,7 +1,7 @@
 //! The execution of a task without source.
 ghost use Rattle.std.specs.Prelude.{◌≡◌, [], ℕ, List, Some, false, not, IsTrue};
 ghost use Rattle.std.specs.List.{list_any};
-ghost use Rattle.gb_folder.specs.Calls.{Requests, Call, takes_at};
+ghost use Rattle.gb_folder.specs.Calls.{Call, Requests, WhereKnown, takes_at};
 ghost use Rattle.gb_folder.specs.Device.{Leads};
 ghost use Rattle.gb_folder.specs.Files.{HasRisen, is_empty, is_own};
 ghost use Rattle.gb_history.specs.Places.{record_place};
@@ -54,8 +54,7 @@ pub fn execute_without_source<F: Folder>(
         → HasRisen (F.device.failures folder.old) (F.device.failures folder.new) }
     ensures blamed { (place : List ℕ) → result.outcome ≡ Failed (Fault.Device place)
         → IsTrue (is_output_of task.now place) }
-    ensures changes { F.device.faithful folder.new
-        → ChangesOnly (is_of_execution task.now) (F.device.contents folder.old) (F.device.contents folder.new) }
+    ensures changes { WhereKnown F.device folder.old folder.new (ChangesOnly (is_of_execution task.now)) }
     // Where the task has no source, this is its execution.
     ensures execution { F.device.faithful folder.new → (kinds : Kinds) (registry_of : Registering)
         (options : Options)

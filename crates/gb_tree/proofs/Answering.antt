@@ -1,8 +1,8 @@
 -- Files that were listed and read during a part of the calls were listed and read during all of them.
 use Rattle.std.proofs.Common.{ℕ, List, [], ◌∷◌, inl, inr}
 use Rattle.std.specs.List.{AllZip}
-use Rattle.gb_folder.specs.Calls.{Requests, Call, no_change}
-use Rattle.gb_folder.specs.Files.{Files, Place, Tearing}
+use Rattle.gb_folder.specs.Calls.{Requests, no_change}
+use Rattle.gb_folder.specs.Files.{Files, Place}
 use Rattle.gb_folder.proofs.Answering.{on_longer_way, read_longer}
 use Rattle.gb_tree.specs.Answered.{AreEntriesListed, AreOutputEntriesListed, IsFileRead, IsStartListed, IsTreeRead, WasObserved, WereObserved}
 use Rattle.gb_tree.specs.Tree.{Entries}

@@ -3,8 +3,8 @@ use Rattle.std.proofs.Common.{◌≡◌, ◌<◌, ◌+◌, ℕ, List, [], ◌∷
 use Rattle.std.proofs.lemmas.List.{map-append, take_more}
 use Rattle.std.specs.List.{AllZip, flat_map, zip}
 use Rattle.gb_folder.specs.Answers.{WereListed, WereRead}
-use Rattle.gb_folder.specs.Calls.{Requests, Call, no_change}
-use Rattle.gb_folder.specs.Files.{Bytes, Files, Place, Tearing}
+use Rattle.gb_folder.specs.Calls.{Requests, no_change}
+use Rattle.gb_folder.specs.Files.{Bytes, Files, Place}
 use Rattle.gb_folder.specs.Limits.{max_files}
 use Rattle.gb_folder.proofs.Answering.{on_longer_way}
 use Rattle.gb_folder.proofs.Asked.{requests_nothing}

@@ -4,8 +4,8 @@ use Rattle.std.proofs.lemmas.List.{append-nil, flat_map_more, map-append, take_m
 use Rattle.std.proofs.lemmas.List.Elements.{Contains-append_cases, Contains-append_left, Contains-append_right}
 use Rattle.std.specs.List.{AllByRecursion, Contains, flat_map}
 use Rattle.gb_folder.proofs.Answering.{read_longer}
-use Rattle.gb_folder.specs.Calls.{Requests, Call, no_change}
-use Rattle.gb_folder.specs.Files.{Contents, Files, Place, Tearing}
+use Rattle.gb_folder.specs.Calls.{Requests, no_change}
+use Rattle.gb_folder.specs.Files.{Contents, Files, Place}
 use Rattle.gb_tree.specs.Answered.{WasObserved, WereObserved}
 use Rattle.gb_tree.specs.Reading.{IsObservedIn}
 use Rattle.gb_tree.specs.Seen.{AreAmong, AreSeen, AreSeenIn, IsSeenIn, SeenFile, WasSeen, places_read, seen_in}

@@ -8,9 +8,8 @@ use Rattle.std.proofs.lemmas.List.Folds.{list_any-append}
 use Rattle.std.specs.List.{AllZip, flat_map, list_any, zip}
 use Rattle.gb_core.specs.Lists.{first_of}
 use Rattle.gb_core.specs.Place.{is_under}
-use Rattle.gb_folder.specs.Answers.{WereListed}
-use Rattle.gb_folder.specs.Calls.{Requests, Call, no_change}
-use Rattle.gb_folder.specs.Files.{Contents, Files, Place, Tearing, is_special_under}
+use Rattle.gb_folder.specs.Calls.{Requests, no_change}
+use Rattle.gb_folder.specs.Files.{Contents, Files, Place, is_special_under}
 use Rattle.gb_folder.specs.Limits.{max_files}
 use Rattle.gb_folder.proofs.Answering.{on_longer_way}
 use Rattle.gb_folder.proofs.Asked.{requests_nothing}

@@ -2,8 +2,7 @@
 use Rattle.std.specs.Prelude.{ℕ, ◌≡◌, ◌⊎◌, true, false, nat_lt, length, List, []}
 use Rattle.std.specs.List.{AllByRecursion, AllZip, flat_map, zip}
 use Rattle.gb_folder.specs.Answers.{WereListed, WereRead}
-use Rattle.gb_folder.specs.Calls.{Call}
-use Rattle.gb_folder.specs.Files.{Bytes, Files, Place, Tearing, is_own}
+use Rattle.gb_folder.specs.Files.{Bytes, Files, Place, is_own}
 use Rattle.gb_folder.specs.Limits.{max_files}
 use Rattle.gb_tree.specs.Property.{distinct, doubled, entries_in, in_order, paths_of, starts_in}
 use Rattle.gb_tree.specs.Reading.{KeepsOnly}
@@ -26,8 +25,8 @@ IsStartListed device old new start places =
 
 -- The entries of a property: what belongs to it, among the places that calls returned as all at or under
 -- each of its starts. They are no more than are allowed, and all of their paths can be in one tree.
-pub record AreEntriesListed {F : Type 0} (device : Device F) (naming : Naming) (roots : List Place) (include exclude : List (List ℕ))
-    (old new : F) (entries : Entries) : Type 0 where
+pub record AreEntriesListed {F : Type 0} (device : Device F) (naming : Naming) (roots : List Place)
+    (include exclude : List (List ℕ)) (old new : F) (entries : Entries) : Type 0 where
   pub listings : List (List Place)
   pub listed : AllZip (IsStartListed device old new) (starts_in include (distinct roots))
       listings

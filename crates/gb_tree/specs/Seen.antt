@@ -3,8 +3,7 @@ use Rattle.std.specs.Prelude.{ℕ, ◌≡◌, false, List, map, IsSome}
 use Rattle.std.specs.List.{AllByRecursion, Contains, flat_map}
 use Rattle.sha2.specs.Sha256.{sha256}
 use Rattle.gb_folder.specs.Answers.{WereRead}
-use Rattle.gb_folder.specs.Calls.{Call}
-use Rattle.gb_folder.specs.Files.{Bytes, Files, Place, Tearing, file_at}
+use Rattle.gb_folder.specs.Files.{Bytes, Files, Place, file_at}
 use Rattle.gb_tree.specs.Tree.{bytes_at, is_large}
 use Rattle.gb_tree.specs.declared.kept.ScannedFile.{ScannedFile}
 use Rattle.gb_folder.specs.Calls.{Device}

@@ -5,7 +5,7 @@ ghost use Rattle.std.specs.FinMap.Entries.{is_sorted, put};
 ghost use Rattle.gb_core.specs.Lists.{byte_order};
 ghost use Rattle.gb_folder.specs.Answers.{WereRead};
 ghost use Rattle.gb_folder.specs.Calls.{OnlyReads, Requests, no_change};
-ghost use Rattle.gb_tree.specs.Tree.{Blames, IsTreeFaultOfMachine, bytes_at, contents_at, is_among};
+ghost use Rattle.gb_tree.specs.Tree.{Blames, IsTreeFaultBetween, bytes_at, contents_at, is_among};
 ghost use Rattle.gb_tree.specs.Prints.{digests_of};
 ghost use Rattle.gb_tree.specs.Answered.{IsTreeRead, WasObserved, WereObserved};
 ghost use Rattle.gb_tree.specs.Reading.{IsReading, IsObservedIn, entries_observed, is_digest_of};
@@ -40,7 +40,7 @@ fn complete<F: Folder>(
     ensures read { F.device.faithful folder.new → IsObservedIn (F.device.contents folder.old).files observed
         → IfOk result (λ made. made.1 ≡ bytes_at (F.device.contents folder.old).files observed.place) }
     ensures err { F.device.faithful folder.new → IsObservedIn (F.device.contents folder.old).files observed
-        → IfErr result (IsTreeFaultOfMachine (F.device.failures folder.old) (F.device.failures folder.new)) }
+        → IfErr result (IsTreeFaultBetween F.device folder.old folder.new) }
 {
     let ScannedFile {
         path,
@@ -89,13 +89,15 @@ pub(crate) fn complete_all<F: Folder>(
         → WereObserved F.device first folder.old observed.items
         → IfOk result (λ made. IsTreeRead F.device first folder.new
         (entries_observed observed.items) made.0) }
-    ensures read { F.device.faithful folder.new → AllByRecursion (IsObservedIn (F.device.contents folder.old).files)
+    ensures read { F.device.faithful folder.new
+        → AllByRecursion (IsObservedIn (F.device.contents folder.old).files)
         observed.items
         → IfOk result (λ made. made.0 ≡ contents_at (F.device.contents folder.old).files
         (entries_observed observed.items)) }
-    ensures err { F.device.faithful folder.new → AllByRecursion (IsObservedIn (F.device.contents folder.old).files)
+    ensures err { F.device.faithful folder.new
+        → AllByRecursion (IsObservedIn (F.device.contents folder.old).files)
         observed.items
-        → IfErr result (IsTreeFaultOfMachine (F.device.failures folder.old) (F.device.failures folder.new)) }
+        → IfErr result (IsTreeFaultBetween F.device folder.old folder.new) }
 {
     let mut digests = Vec::with_capacity(alloc, observed.len())?;
     let mut files = Files::new(alloc);

@@ -50,12 +50,14 @@ pub(crate) fn entries_of<F: Folder>(
     ensures listed { IfOk result (λ entries. AreEntriesListed F.device naming
         roots.now include.now exclude.now folder.old folder.new entries.items) }
     ensures entries { F.device.faithful folder.new → IfOk result (λ entries.
-        entries.items ≡ entries_of naming roots.now include.now exclude.now (F.device.contents folder.old).files) }
+        entries.items ≡ entries_of naming roots.now include.now exclude.now
+        (F.device.contents folder.old).files) }
     ensures fit { F.device.faithful folder.new → OnOk result
         (entry_faults name.now naming roots.now include.now exclude.now (F.device.contents folder.old) ≡ []) }
     ensures err { F.device.faithful folder.new → IfErr result (λ fault.
         IsRefused (F.device.failures folder.old) (F.device.failures folder.new)
-        (entry_faults name.now naming roots.now include.now exclude.now (F.device.contents folder.old)) fault) }
+        (entry_faults name.now naming roots.now include.now exclude.now (F.device.contents folder.old))
+        fault) }
 {
     let roots = distinct(alloc, roots)?;
     let mut entries = found_few(

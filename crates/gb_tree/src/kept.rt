@@ -2,7 +2,7 @@
 ghost use Rattle.std.specs.Prelude.{◌≡◌, ◌↔◌, [], map, IsTrue, IfOk, IfErr};
 ghost use Rattle.std.specs.List.{AllByRecursion};
 ghost use Rattle.gb_folder.specs.Calls.{OnlyReads, Requests, no_change};
-ghost use Rattle.gb_tree.specs.Tree.{Blames, IsTreeFaultOfMachine, contents_at, is_among};
+ghost use Rattle.gb_tree.specs.Tree.{Blames, IsTreeFaultBetween, contents_at, is_among};
 ghost use Rattle.gb_tree.specs.Prints.{digests_of};
 
 use crate::completing::complete_all;
@@ -111,11 +111,13 @@ impl Reading {
             → WereObserved F.device first folder.old self.1
             → IfOk result (λ made. IsTreeRead F.device first folder.new
             (entries_observed self.1) made.0.1) }
-        ensures tree { F.device.faithful folder.new → AllByRecursion (IsObservedIn (F.device.contents folder.old).files) self.1
+        ensures tree { F.device.faithful folder.new
+            → AllByRecursion (IsObservedIn (F.device.contents folder.old).files) self.1
             → IfOk result
             (λ made. made.0.1 ≡ contents_at (F.device.contents folder.old).files (entries_observed self.1)) }
-        ensures err { F.device.faithful folder.new → AllByRecursion (IsObservedIn (F.device.contents folder.old).files) self.1
-            → IfErr result (IsTreeFaultOfMachine (F.device.failures folder.old) (F.device.failures folder.new)) }
+        ensures err { F.device.faithful folder.new
+            → AllByRecursion (IsObservedIn (F.device.contents folder.old).files) self.1
+            → IfErr result (IsTreeFaultBetween F.device folder.old folder.new) }
     {
         let Reading { name, files } = self;
         let (files, digests) = complete_all(alloc, folder, files)?;

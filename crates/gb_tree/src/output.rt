@@ -67,7 +67,11 @@ pub fn output_prints<F: Folder>(
         (F.device.failures folder.old) (F.device.failures folder.new) result }
     ensures named { IfOk result (λ prints. prints.0 ≡ name.now) }
     ensures prints { F.device.faithful folder.new → IfOk result
-        (λ prints. prints ≡ (name.now, digests_of (files_from (F.device.contents folder.old).files place.now))) }
+        (λ prints. prints ≡ (
+          name.now,
+          digests_of (files_from (F.device.contents folder.old).files
+              place.now),
+        )) }
     ensures fit { F.device.faithful folder.new → OnOk result
         (output_faults name.now place.now (F.device.contents folder.old) ≡ []) }
     ensures err { F.device.faithful folder.new → IfErr result (λ fault.
@@ -113,7 +117,8 @@ pub fn output_reading<F: Folder>(
     ensures observed { F.device.faithful folder.new → AreSeenIn (F.device.contents folder.old).files seen.now
         → IfOk result (λ reading. AreObserved (F.device.contents folder.old).files
         (output_entries (F.device.contents folder.old).files place.now) reading.1) }
-    ensures fit { F.device.faithful folder.new → AreSeenIn (F.device.contents folder.old).files seen.now → OnOk result
+    ensures fit { F.device.faithful folder.new → AreSeenIn (F.device.contents folder.old).files seen.now
+        → OnOk result
         (output_faults name.now place.now (F.device.contents folder.old) ≡ []) }
     ensures err { F.device.faithful folder.new → AreSeenIn (F.device.contents folder.old).files seen.now
         → IfErr result (λ fault.
@@ -161,7 +166,8 @@ fn read_output_once<F: Folder>(
     ensures observed { F.device.faithful folder.new → AreSeenIn (F.device.contents folder.old).files seen.now
         → IfOk result (λ reading. AreObserved (F.device.contents folder.old).files
         (output_entries (F.device.contents folder.old).files place.now) reading.1) }
-    ensures fit { F.device.faithful folder.new → AreSeenIn (F.device.contents folder.old).files seen.now → OnOk result
+    ensures fit { F.device.faithful folder.new → AreSeenIn (F.device.contents folder.old).files seen.now
+        → OnOk result
         (output_faults name.now place.now (F.device.contents folder.old) ≡ []) }
     ensures err { F.device.faithful folder.new → AreSeenIn (F.device.contents folder.old).files seen.now
         → IfErr result (λ fault.
@@ -218,7 +224,8 @@ fn entries_beneath<F: Folder>(
     ensures listed { IfOk result (λ entries. AreOutputEntriesListed F.device
         folder.old folder.new place.now entries.items) }
     ensures entries { F.device.faithful folder.new → IfOk result (λ entries.
-        entries.items ≡ entries_from place.now (places_under (F.device.contents folder.old).files place.now)) }
+        entries.items ≡ entries_from place.now (places_under (F.device.contents folder.old).files
+        place.now)) }
     ensures fit { F.device.faithful folder.new → OnOk result
         (listing_faults name.now place.now (F.device.contents folder.old) ≡ []) }
     ensures err { F.device.faithful folder.new → IfErr result (λ fault.

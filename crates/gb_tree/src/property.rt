@@ -62,7 +62,8 @@ pub fn snapshot<F: Folder>(
         (tree_faults name.now naming roots.now include.now exclude.now (F.device.contents folder.old) ≡ []) }
     ensures err { F.device.faithful folder.new → IfErr result (λ fault.
         IsRefused (F.device.failures folder.old) (F.device.failures folder.new)
-        (tree_faults name.now naming roots.now include.now exclude.now (F.device.contents folder.old)) fault) }
+        (tree_faults name.now naming roots.now include.now exclude.now (F.device.contents folder.old))
+        fault) }
 {
     let entries = entries_of(alloc, folder, name, naming, roots, include, exclude)?;
     let files = read_all(alloc, folder, entries.as_slice())?;
@@ -94,7 +95,8 @@ pub fn prints_of<F: Folder>(
         (tree_faults name.now naming roots.now include.now exclude.now (F.device.contents folder.old) ≡ []) }
     ensures err { F.device.faithful folder.new → IfErr result (λ fault.
         IsRefused (F.device.failures folder.old) (F.device.failures folder.new)
-        (tree_faults name.now naming roots.now include.now exclude.now (F.device.contents folder.old)) fault) }
+        (tree_faults name.now naming roots.now include.now exclude.now (F.device.contents folder.old))
+        fault) }
 {
     let entries = entries_of(alloc, folder, name, naming, roots, include, exclude)?;
     let digests = digest_all(alloc, folder, entries.as_slice())?;
@@ -135,16 +137,20 @@ pub fn reading_of<F: Folder>(
     // Where contents are known and the seen digests are those of the files there:
     ensures digests { F.device.faithful folder.new → AreSeenIn (F.device.contents folder.old).files seen.now
         → IfOk result (λ reading. digests_observed reading.1
-        ≡ digests_of (tree_of naming roots.now include.now exclude.now (F.device.contents folder.old).files)) }
+        ≡ digests_of (tree_of naming roots.now include.now exclude.now
+        (F.device.contents folder.old).files)) }
     ensures observed { F.device.faithful folder.new → AreSeenIn (F.device.contents folder.old).files seen.now
         → IfOk result (λ reading. AreObserved (F.device.contents folder.old).files
-        (entries_of naming roots.now include.now exclude.now (F.device.contents folder.old).files) reading.1) }
-    ensures fit { F.device.faithful folder.new → AreSeenIn (F.device.contents folder.old).files seen.now → OnOk result
+        (entries_of naming roots.now include.now exclude.now (F.device.contents folder.old).files)
+        reading.1) }
+    ensures fit { F.device.faithful folder.new → AreSeenIn (F.device.contents folder.old).files seen.now
+        → OnOk result
         (tree_faults name.now naming roots.now include.now exclude.now (F.device.contents folder.old) ≡ []) }
     ensures err { F.device.faithful folder.new → AreSeenIn (F.device.contents folder.old).files seen.now
         → IfErr result (λ fault.
         IsRefused (F.device.failures folder.old) (F.device.failures folder.new)
-        (tree_faults name.now naming roots.now include.now exclude.now (F.device.contents folder.old)) fault) }
+        (tree_faults name.now naming roots.now include.now exclude.now (F.device.contents folder.old))
+        fault) }
 {
     let free = *room;
     let first = read_once(
@@ -191,16 +197,20 @@ fn read_once<F: Folder>(
     // Where contents are known and the seen digests are those of the files there:
     ensures digests { F.device.faithful folder.new → AreSeenIn (F.device.contents folder.old).files seen.now
         → IfOk result (λ reading. digests_observed reading.1
-        ≡ digests_of (tree_of naming roots.now include.now exclude.now (F.device.contents folder.old).files)) }
+        ≡ digests_of (tree_of naming roots.now include.now exclude.now
+        (F.device.contents folder.old).files)) }
     ensures observed { F.device.faithful folder.new → AreSeenIn (F.device.contents folder.old).files seen.now
         → IfOk result (λ reading. AreObserved (F.device.contents folder.old).files
-        (entries_of naming roots.now include.now exclude.now (F.device.contents folder.old).files) reading.1) }
-    ensures fit { F.device.faithful folder.new → AreSeenIn (F.device.contents folder.old).files seen.now → OnOk result
+        (entries_of naming roots.now include.now exclude.now (F.device.contents folder.old).files)
+        reading.1) }
+    ensures fit { F.device.faithful folder.new → AreSeenIn (F.device.contents folder.old).files seen.now
+        → OnOk result
         (tree_faults name.now naming roots.now include.now exclude.now (F.device.contents folder.old) ≡ []) }
     ensures err { F.device.faithful folder.new → AreSeenIn (F.device.contents folder.old).files seen.now
         → IfErr result (λ fault.
         IsRefused (F.device.failures folder.old) (F.device.failures folder.new)
-        (tree_faults name.now naming roots.now include.now exclude.now (F.device.contents folder.old)) fault) }
+        (tree_faults name.now naming roots.now include.now exclude.now (F.device.contents folder.old))
+        fault) }
 {
     let entries = entries_of(alloc, folder, name, naming, roots, include, exclude)?;
     let observed = scan_all(alloc, folder, entries.as_slice(), seen, room)?;

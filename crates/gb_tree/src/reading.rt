@@ -9,7 +9,7 @@ ghost use Rattle.gb_core.specs.Lists.{byte_order};
 ghost use Rattle.gb_folder.specs.Answers.{WereListed, WereRead};
 ghost use Rattle.gb_folder.specs.Calls.{OnlyReads};
 ghost use Rattle.gb_folder.specs.Files.{file_at, is_special_under, places_under};
-ghost use Rattle.gb_tree.specs.Tree.{Blames, IsRefused, IsTreeFaultOfMachine, bytes_at, contents_at};
+ghost use Rattle.gb_tree.specs.Tree.{Blames, IsRefused, IsTreeFaultBetween, bytes_at, contents_at};
 ghost use Rattle.gb_tree.specs.Tree.{is_among, is_large, too_large};
 ghost use Rattle.gb_tree.specs.Prints.{digests_of};
 ghost use Rattle.sha2.specs.Sha256.{sha256};
@@ -47,7 +47,7 @@ pub(crate) fn listed<F: Folder>(
     ensures none_special { F.device.faithful folder.new → OnOk result
         (is_special_under (F.device.contents folder.old) place.now ≡ false) }
     ensures special { F.device.faithful folder.new → IfErr result
-        (λ fault. IsTreeFaultOfMachine (F.device.failures folder.old) (F.device.failures folder.new) fault
+        (λ fault. IsTreeFaultBetween F.device folder.old folder.new fault
         ⊎ (IsTrue (is_special_under (F.device.contents folder.old) place.now)
         × (fault ≡ TreeFault.BadFileName place.now))) }
 {
@@ -73,8 +73,9 @@ pub(crate) fn read_file<F: Folder>(
         (IsSome (file_at (F.device.contents folder.old).files place.now)) }
     ensures small { F.device.faithful folder.new → OnOk result
         (is_large (F.device.contents folder.old).files place.now ≡ false) }
-    ensures err { F.device.faithful folder.new → IsSome (file_at (F.device.contents folder.old).files place.now)
-        → IfErr result (λ fault. IsTreeFaultOfMachine (F.device.failures folder.old) (F.device.failures folder.new) fault
+    ensures err { F.device.faithful folder.new
+        → IsSome (file_at (F.device.contents folder.old).files place.now)
+        → IfErr result (λ fault. IsTreeFaultBetween F.device folder.old folder.new fault
         ⊎ ((is_large (F.device.contents folder.old).files place.now ≡ true)
         × (fault ≡ TreeFault.TooLarge place.now))) }
 {
@@ -125,11 +126,13 @@ pub(crate) fn read_piece<F: Folder>(
         (F.device.failures folder.old) (F.device.failures folder.new) result }
     ensures within { IfOk result (λ piece. length piece.items ≤ len) }
     ensures read { F.device.faithful folder.new → IfOk result
-        (λ piece. piece.items ≡ take len (drop at (bytes_at (F.device.contents folder.old).files place.now))) }
+        (λ piece. piece.items ≡ take len (drop at (bytes_at (F.device.contents folder.old).files
+        place.now))) }
     ensures exists { F.device.faithful folder.new → OnOk result
         (IsSome (file_at (F.device.contents folder.old).files place.now)) }
-    ensures err { F.device.faithful folder.new → IsSome (file_at (F.device.contents folder.old).files place.now)
-        → IfErr result (λ fault. IsTreeFaultOfMachine (F.device.failures folder.old) (F.device.failures folder.new) fault) }
+    ensures err { F.device.faithful folder.new
+        → IsSome (file_at (F.device.contents folder.old).files place.now)
+        → IfErr result (λ fault. IsTreeFaultBetween F.device folder.old folder.new fault) }
 {
     match folder.read_part(alloc, place, at, len) {
         Ok(piece) => Ok(piece),
@@ -150,8 +153,9 @@ fn digest_file<F: Folder>(
         (λ digest. digest ≡ sha256 (bytes_at (F.device.contents folder.old).files place.now)) }
     ensures small { F.device.faithful folder.new → OnOk result
         (is_large (F.device.contents folder.old).files place.now ≡ false) }
-    ensures err { F.device.faithful folder.new → IsSome (file_at (F.device.contents folder.old).files place.now)
-        → IfErr result (λ fault. IsTreeFaultOfMachine (F.device.failures folder.old) (F.device.failures folder.new) fault
+    ensures err { F.device.faithful folder.new
+        → IsSome (file_at (F.device.contents folder.old).files place.now)
+        → IfErr result (λ fault. IsTreeFaultBetween F.device folder.old folder.new fault
         ⊎ ((is_large (F.device.contents folder.old).files place.now ≡ true)
         × (fault ≡ TreeFault.TooLarge place.now))) }
 {
@@ -183,7 +187,8 @@ pub(crate) fn digest_all<F: Folder>(
         (F.device.failures folder.old) (F.device.failures folder.new) result }
     ensures ordered { IfOk result (λ digests. IsTrue (is_sorted byte_order digests.items)) }
     ensures digests { F.device.faithful folder.new → IfOk result
-        (λ digests. digests.items ≡ digests_of (contents_at (F.device.contents folder.old).files entries.now)) }
+        (λ digests. digests.items ≡ digests_of (contents_at (F.device.contents folder.old).files
+        entries.now)) }
     ensures small { F.device.faithful folder.new → OnOk result
         (too_large (F.device.contents folder.old).files entries.now ≡ []) }
     ensures err { F.device.faithful folder.new

@@ -9,7 +9,7 @@ ghost use Rattle.gb_core.specs.Lists.{byte_order};
 ghost use Rattle.gb_folder.specs.Answers.{WereRead};
 ghost use Rattle.gb_folder.specs.Calls.{OnlyReads, Requests, no_change};
 ghost use Rattle.gb_folder.specs.Files.{file_at};
-ghost use Rattle.gb_tree.specs.Tree.{Blames, IsRefused, IsTreeFaultOfMachine, bytes_at, is_among, is_large};
+ghost use Rattle.gb_tree.specs.Tree.{Blames, IsRefused, IsTreeFaultBetween, bytes_at, is_among, is_large};
 ghost use Rattle.gb_tree.specs.Tree.{too_large};
 ghost use Rattle.gb_tree.specs.Answered.{WasObserved, WereObserved};
 ghost use Rattle.gb_tree.specs.Reading.{IsReading, IsObservedIn, KeepsOnly, entries_observed, is_digest_of};
@@ -83,8 +83,9 @@ fn scan_bytes<F: Folder>(
         (IsSome (file_at (F.device.contents folder.old).files place.now)) }
     ensures small { F.device.faithful folder.new → OnOk result
         (is_large (F.device.contents folder.old).files place.now ≡ false) }
-    ensures err { F.device.faithful folder.new → IsSome (file_at (F.device.contents folder.old).files place.now)
-        → IfErr result (λ fault. IsTreeFaultOfMachine (F.device.failures folder.old) (F.device.failures folder.new) fault
+    ensures err { F.device.faithful folder.new
+        → IsSome (file_at (F.device.contents folder.old).files place.now)
+        → IfErr result (λ fault. IsTreeFaultBetween F.device folder.old folder.new fault
         ⊎ ((is_large (F.device.contents folder.old).files place.now ≡ true)
         × (fault ≡ TreeFault.TooLarge place.now))) }
 {
@@ -117,8 +118,9 @@ pub(crate) fn scan_file<F: Folder>(
         (λ found. WasObserved F.device folder.old folder.new (file_in found)) }
     ensures observed { F.device.faithful folder.new → IfOk result
         (λ found. IsObservedIn (F.device.contents folder.old).files (file_in found)) }
-    ensures err { F.device.faithful folder.new → IsSome (file_at (F.device.contents folder.old).files place.now)
-        → IfErr result (λ fault. IsTreeFaultOfMachine (F.device.failures folder.old) (F.device.failures folder.new) fault
+    ensures err { F.device.faithful folder.new
+        → IsSome (file_at (F.device.contents folder.old).files place.now)
+        → IfErr result (λ fault. IsTreeFaultBetween F.device folder.old folder.new fault
         ⊎ ((is_large (F.device.contents folder.old).files place.now ≡ true)
         × (fault ≡ TreeFault.TooLarge place.now))) }
 {
@@ -174,10 +176,12 @@ fn find_file<F: Folder>(
         → AreSeen F.device first folder.old seen.now
         → IfOk result
         (λ found. WasObserved F.device first folder.new (file_in found)) }
-    ensures observed { F.device.faithful folder.new → AreSeenIn (F.device.contents folder.old).files seen.now → IfOk result
+    ensures observed { F.device.faithful folder.new → AreSeenIn (F.device.contents folder.old).files seen.now
+        → IfOk result
         (λ found. IsObservedIn (F.device.contents folder.old).files (file_in found)) }
-    ensures err { F.device.faithful folder.new → IsSome (file_at (F.device.contents folder.old).files place.now)
-        → IfErr result (λ fault. IsTreeFaultOfMachine (F.device.failures folder.old) (F.device.failures folder.new) fault
+    ensures err { F.device.faithful folder.new
+        → IsSome (file_at (F.device.contents folder.old).files place.now)
+        → IfErr result (λ fault. IsTreeFaultBetween F.device folder.old folder.new fault
         ⊎ ((is_large (F.device.contents folder.old).files place.now ≡ true)
         × (fault ≡ TreeFault.TooLarge place.now))) }
 {
@@ -206,9 +210,11 @@ pub(crate) fn scan_all<F: Folder>(
         → AreSeen F.device first folder.old seen.now
         → IfOk result
         (λ observed. WereObserved F.device first folder.new observed.items) }
-    ensures observed { F.device.faithful folder.new → AreSeenIn (F.device.contents folder.old).files seen.now → IfOk result
+    ensures observed { F.device.faithful folder.new → AreSeenIn (F.device.contents folder.old).files seen.now
+        → IfOk result
         (λ observed. AllByRecursion (IsObservedIn (F.device.contents folder.old).files) observed.items) }
-    ensures small { F.device.faithful folder.new → AreSeenIn (F.device.contents folder.old).files seen.now → OnOk result
+    ensures small { F.device.faithful folder.new → AreSeenIn (F.device.contents folder.old).files seen.now
+        → OnOk result
         (too_large (F.device.contents folder.old).files entries.now ≡ []) }
     ensures err { F.device.faithful folder.new → AreSeenIn (F.device.contents folder.old).files seen.now
         → AllByRecursion (λ entry. IsSome (file_at (F.device.contents folder.old).files entry.1)) entries.now

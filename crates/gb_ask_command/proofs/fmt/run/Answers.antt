@@ -1,7 +1,6 @@
 use Rattle.std.proofs.Common.{◌++◌, length, map, string_bytes, sym, ◌∙◌}
 use Rattle.gb_folder.proofs.Leading.{requests_of}
 use Rattle.gb_printer.proofs.Printed.{all_printed, prints_more}
-use Rattle.gb_run.proofs.Ran.{known_before}
 use Rattle.gb_ask_command.specs.Fmt.{end_text, is_headed, may_write}
 use Rattle.gb_ask_command.proofs.Writing.{all_may}
 use Rattle.gb_ask_command.proofs.fmt.run.Goals as goal

@@ -1,4 +1,4 @@
-use Rattle.std.proofs.Common.{◌⊎◌, List, Ok, Err, inl, refl, subst, ◌∙◌}
+use Rattle.std.proofs.Common.{◌⊎◌, List, Ok, Err, subst, ◌∙◌}
 use Rattle.std.specs.Prelude.{MatchResult}
 use Rattle.gb_build.specs.Scripts.{FolderSays}
 use Rattle.gb_plan.specs.Task.{Text}

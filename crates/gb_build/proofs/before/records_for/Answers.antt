@@ -7,7 +7,6 @@ use Rattle.gb_records.specs.Said.{IsReadAt}
 use Rattle.gb_store.specs.Faults.{IsOfMachine}
 use Rattle.gb_build.specs.Refusing.{IsUnread}
 use Rattle.gb_build.proofs.Read.{all_read, unread}
-use Rattle.gb_folder.proofs.Asked.{requests_nothing}
 use Rattle.gb_records.specs.Answered.{WasAnswered}
 use Rattle.gb_build.proofs.before.records_for.Goals as goal
 use Rattle.gb_build.proofs.before.records_for.Goals.{then-dry_run, else-dry_run+in_ok-paths_of+in_ok-records}

@@ -1,6 +1,5 @@
-use Rattle.std.proofs.Common.{Err, Ok, arith, subst, ◌∙◌, inl, inr}
+use Rattle.std.proofs.Common.{Err, Ok, subst, ◌∙◌, inl, inr}
 use Rattle.gb_core.specs.Place.{is_place}
-use Rattle.gb_folder.proofs.Changes.{SameTearing-chain}
 use Rattle.gb_folder.specs.Files.{Contents}
 use Rattle.gb_script.specs.Script.{Says}
 use Rattle.gb_store.proofs.Machine.{machine_before}

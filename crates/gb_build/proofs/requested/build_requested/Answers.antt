@@ -9,7 +9,6 @@ use Rattle.gb_plan.specs.Graph.{order}
 use Rattle.gb_records.specs.Said.{IsReadAt}
 use Rattle.gb_store.specs.Changes.{ChangesOnly}
 use Rattle.gb_task.specs.Executing.{setting_with}
-use Rattle.gb_task.proofs.Recorded.{observed_later}
 use Rattle.gb_exec.specs.Building.{is_of_executions}
 use Rattle.gb_build.proofs.Changed.{elsewhere}
 use Rattle.gb_build.proofs.Holding.{built_leads}

@@ -1,4 +1,4 @@
-use Rattle.std.proofs.Common.{ℕ, ◌++◌, ◌+◌, List, Some, drop, ap, sym, ◌∙◌}
+use Rattle.std.proofs.Common.{ℕ, ◌++◌, ◌+◌, List, drop, ap, sym, ◌∙◌}
 use Rattle.std.specs.Option.{option_copied}
 use Rattle.gb_declare.specs.Declaring.{scope_in}
 use Rattle.gb_registry.specs.Tables.{tables_of}

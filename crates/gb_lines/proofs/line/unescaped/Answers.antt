@@ -1,4 +1,4 @@
-use Rattle.std.proofs.Common.{rules, ◌≡◌, ◌+◌, inr, Bool, true, false, drop, get_or, subst, sym, refl, ◌∙◌, List, ℕ}
+use Rattle.std.proofs.Common.{◌≡◌, ◌+◌, inr, Bool, true, false, drop, subst, sym, ◌∙◌, List, ℕ}
 use Rattle.std.proofs.lemmas.List.{at_drop_all, at_drop_more}
 use Rattle.std.proofs.lemmas.Bool.{ne_eqb}
 use Rattle.gb_lines.specs.Lines.{unescaped}

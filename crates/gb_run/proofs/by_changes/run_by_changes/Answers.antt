@@ -29,7 +29,7 @@ use Rattle.gb_run.specs.Worked.{AreStepsAt, part_held}
 use Rattle.gb_run.specs.declared.work.Part.{Part}
 use Rattle.gb_run.proofs.Changed.{changes_of}
 use Rattle.gb_run.proofs.Composed.{Ends}
-use Rattle.gb_run.proofs.Ran.{blamed_parts_at, blamed_parts_for, device_alone, ended_badly, ended_well, if_made, known_before, parts_so, permitted_parts, runs_by}
+use Rattle.gb_run.proofs.Ran.{blamed_parts_at, blamed_parts_for, device_alone, ended_badly, ended_well, if_made, parts_so, permitted_parts, runs_by}
 use Rattle.gb_run.proofs.Fitting.{all_fitting}
 use Rattle.gb_run.proofs.Going.{fails_early}
 use Rattle.gb_run.proofs.RanBy.{done_work_ends}

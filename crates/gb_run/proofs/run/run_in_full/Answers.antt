@@ -23,7 +23,7 @@ use Rattle.gb_run.specs.Work.{AreAtOutputs, RunsInFull, ending, or_made}
 use Rattle.gb_run.specs.Worked.{AreStepsAt}
 use Rattle.gb_run.specs.declared.work.Part.{Part}
 use Rattle.gb_run.proofs.Changed.{changes_of}
-use Rattle.gb_run.proofs.Ran.{blamed_parts_at, blamed_parts_for, device_alone, ended_badly, ended_well, if_made, known_before, permitted_parts, ran, runs_so}
+use Rattle.gb_run.proofs.Ran.{blamed_parts_at, blamed_parts_for, device_alone, ended_badly, ended_well, if_made, permitted_parts, ran, runs_so}
 use Rattle.gb_run.proofs.Running.{fails_early}
 use Rattle.gb_run.proofs.run.run_in_full.Goals as goal
 

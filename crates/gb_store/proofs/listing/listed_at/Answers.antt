@@ -1,4 +1,3 @@
-use Rattle.std.proofs.Common.{sym}
 use Rattle.gb_folder.specs.Calls.{Lists, answered}
 use Rattle.gb_folder.specs.Device.{IsCalled}
 use Rattle.gb_folder.proofs.Exact.{listed, lists_well, row_failed}

@@ -1,4 +1,4 @@
-use Rattle.std.proofs.Common.{◌≡◌, ◌++◌, ◌∷◌, Bool, true, false, List, Result, Ok, Err, if◌then◌else◌, is_err, is_ok, sym, ap, subst, ◌∙◌}
+use Rattle.std.proofs.Common.{◌≡◌, ◌++◌, ◌∷◌, false, List, Result, Ok, Err, if◌then◌else◌, is_err, is_ok, sym, ap, subst, ◌∙◌}
 use Rattle.std.specs.List.{flat_map}
 use Rattle.gb_tree.specs.Seen.{AreAmong, SeenFile}
 use Rattle.gb_tree.proofs.Remembering.{among_turned, none_among}
