@@ -32,10 +32,10 @@ reading_keeps leaves before after (Removes place answer) permitted answers = abs
 module _ {F : Type 0} (device : Device F) (leaves : Tearing) (Shows : F → Contents → Type 0)
     (are : AreAnswersOf device.allowed leaves Shows) where
   -- calls that request no change came from a state that shows the same
-  unchanged : (old : F) {new : F} (contents : Contents) → IsReachedBy device.allowed no_change old new → Shows new contents → Shows old contents
+  unchanged : (old : F) {new : F} (contents : Contents) → IsReachedBy device no_change old new → Shows new contents → Shows old contents
   unchanged old contents none shows = shows
   unchanged old contents (then {mid = mid} call new led permitted is) shows =
-      let from = are.back mid call new contents is shows in
+      let from = are.back mid call new contents is.allowed shows in
       unchanged old contents led (subst (λ (c : Contents). Shows mid c) (sym (reading_keeps leaves from.0 contents call permitted from.2)) from.1)
 
   pub back_unchanged : (old new : F) (contents : Contents) → Requests device no_change old new → Shows new contents → Shows old contents

@@ -95,10 +95,10 @@ module _ {F : Type 0} (device : Device F) (log : F → List Call) (keeps : LogsC
       first [] ends but_last every within = (every (subst (λ (f : F). Within f) (sym ends) within)).0
       first (next ∷ rest) ends but_last every within = but_last
 
-  leads_back : (permit : Permit) → ((call : Call) → IsPermitted permit call → P call) → (old : F) {new : F} → IsReachedBy device.allowed permit old new → HoldsFrom new → HoldsFrom old
+  leads_back : (permit : Permit) → ((call : Call) → IsPermitted permit call → P call) → (old : F) {new : F} → IsReachedBy device permit old new → HoldsFrom new → HoldsFrom old
   leads_back permit each old none holds = holds
   leads_back permit each old (then {mid = mid} call new led permitted is) holds =
-      leads_back permit each old led (one_back mid call new is (λ within. each call permitted) holds)
+      leads_back permit each old led (one_back mid call new is.allowed (λ within. each call permitted) holds)
 
   -- requests before
   pub requests_back : (permit : Permit) → ((call : Call) → IsPermitted permit call → P call) → (old new : F) → Requests device permit old new → HoldsFrom new → HoldsFrom old

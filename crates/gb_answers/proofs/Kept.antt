@@ -52,10 +52,10 @@ module _ {F : Type 0} (device : Device F) (log : F → List Call) (keeps : LogsC
     | inr lost ↦ stays P old new lost.0
   ]
 
-  leads_grow : (permit : Permit) (old : F) {new : F} → IsReachedBy device.allowed permit old new → Grows (IsPermitted permit) old new
+  leads_grow : (permit : Permit) (old : F) {new : F} → IsReachedBy device permit old new → Grows (IsPermitted permit) old new
   leads_grow permit old none = stays (IsPermitted permit) old old refl
   leads_grow permit old (then {mid = mid} call new led permitted is) =
-      grows_then (IsPermitted permit) old mid new (leads_grow permit old led) (one_grows (IsPermitted permit) mid call new is permitted)
+      grows_then (IsPermitted permit) old mid new (leads_grow permit old led) (one_grows (IsPermitted permit) mid call new is.allowed permitted)
 
   pub requests_grow : (permit : Permit) (old new : F) → Requests device permit old new → Grows (IsPermitted permit) old new
   requests_grow permit old new requests = leads_grow permit old (requests.calls none)

@@ -20,7 +20,6 @@ use crate::words::Mode;
 use gb_answer::answer::refusal_text;
 use gb_core::place::{Place, PlaceFault};
 use gb_core::text::Text;
-use gb_folder::calls::{read, write};
 use gb_folder::folder::{Folder, FolderFault};
 use gb_format::{format_script, format_settings};
 use gb_picture::shown::push_shown;
@@ -239,7 +238,7 @@ fn read_at<F: Folder>(alloc: Global, folder: &mut F, place: &Place) -> Result<Ve
         × (bytes_in result ≡ answer_at place.now answer)) }
 {
     let at = place.copy()?;
-    let answer = read(alloc, folder, place, MAX_SCRIPT as u64);
+    let answer = folder.read(alloc, place, MAX_SCRIPT as u64);
     answered_at(answer, at)
 }
 
@@ -453,7 +452,7 @@ fn replace<F: Folder>(
 {
     let named = line_of(alloc, place)?;
     let at = place.copy()?;
-    let answer = write(folder, place, out.as_bytes(), MAX_SCRIPT as u64);
+    let answer = folder.write(place, out.as_bytes(), MAX_SCRIPT as u64);
     named_after(answer, at, named)
 }
 

@@ -11,6 +11,7 @@ ghost use Rattle.gb_build.specs.Answers.{edit_answer};
 
 use gb_core::bytes::Bytes;
 use gb_core::place::Place;
+use gb_folder::calls;
 use gb_folder::folder::Folder;
 use gb_folder::limits::MAX_FILE;
 use gb_folder::own::is_own;
@@ -39,7 +40,7 @@ pub fn put<F: Folder>(folder: &mut F, place: &Place, bytes: &Bytes) -> Result<()
     if is_own(place) {
         return Err(Fault::OwnState(at));
     }
-    match folder.write(place, bytes.as_slice(), MAX_FILE) {
+    match calls::write(folder, place, bytes.as_slice(), MAX_FILE) {
         Ok(()) => Ok(()),
         Err(fault) => Err(fault_of(fault, at)),
     }
@@ -61,7 +62,7 @@ pub fn remove<F: Folder>(folder: &mut F, place: &Place) -> Result<(), Fault>
     if is_own(place) {
         return Err(Fault::OwnState(at));
     }
-    match folder.remove(place) {
+    match calls::remove(folder, place) {
         Ok(()) => Ok(()),
         Err(fault) => Err(fault_of(fault, at)),
     }

@@ -8,6 +8,7 @@ ghost use Rattle.gb_build.specs.Found.{WasParsed};
 ghost use Rattle.gb_build.specs.Texts.{FileSays, Reports, TextSays, in_file, unread_at};
 
 use gb_core::place::Place;
+use gb_folder::calls::read;
 use gb_folder::folder::{Folder, FolderFault};
 use gb_report::fault::Fault;
 use gb_script::fault::ScriptFault;
@@ -32,7 +33,7 @@ pub fn settings_at<F: Folder>(
     ensures parsed { IfOk result (WasParsed F.device SaysAsSettings folder.old
         folder.new place) }
 {
-    match folder.read(alloc, &place, MAX_SCRIPT as u64) {
+    match read(alloc, folder, &place, MAX_SCRIPT as u64) {
         Ok(bytes) => settings_in(alloc, bytes.as_slice(), place),
         Err(fault) => match fault {
             FolderFault::Missing => Ok(Settings::new(Vec::new(alloc))),
@@ -53,7 +54,7 @@ pub fn script_at<F: Folder>(alloc: Global, folder: &mut F, place: Place) -> Resu
     ensures parsed { IfOk result (WasParsed F.device Says folder.old folder.new
         place) }
 {
-    match folder.read(alloc, &place, MAX_SCRIPT as u64) {
+    match read(alloc, folder, &place, MAX_SCRIPT as u64) {
         Ok(bytes) => script_in(alloc, bytes.as_slice(), place),
         Err(fault) => match fault {
             FolderFault::Missing => Ok(Script::new(Vec::new(alloc))),

@@ -12,6 +12,7 @@ use crate::findings::{Finding, Problem, push_warning};
 use crate::places::{Rooted, all_outputs, all_roots};
 use crate::sites::Site;
 use gb_core::place::Place;
+use gb_folder::calls::list;
 use gb_folder::folder::{Folder, FolderFault};
 use gb_plan::task::TaskDeclaration;
 use gb_report::fault::Fault;
@@ -123,7 +124,7 @@ fn has_nothing<F: Folder>(alloc: Global, folder: &mut F, root: &Place) -> Result
     ensures err { F.device.faithful folder.new
         → IfErr result (IsOfMachine (F.device.failures folder.old) (F.device.failures folder.new)) }
 {
-    match folder.list(alloc, root) {
+    match list(alloc, folder, root) {
         Ok(places) => Ok(places.is_empty()),
         Err(fault) => match fault {
             FolderFault::BadFileName => Ok(false),

@@ -23,6 +23,7 @@ use gb_core::name::{Name, NameFault};
 use gb_core::path::{ProjectPath, TaskPath};
 use gb_core::place::{Place, PlaceFault};
 use gb_core::text::Text;
+use gb_folder::calls::read;
 use gb_folder::folder::{Folder, FolderFault};
 use gb_project::properties::properties_of;
 use gb_provider::transforms::Transforms;
@@ -148,7 +149,7 @@ pub(crate) fn lines_at<F: Folder>(
         IsOfMachine (F.device.failures folder.old) (F.device.failures folder.new) fault
         ⊎ HasTextFault (F.device.contents folder.old).files place.now fault) }
 {
-    match folder.read(alloc, place, MAX_SCRIPT as u64) {
+    match read(alloc, folder, place, MAX_SCRIPT as u64) {
         Ok(bytes) => lines_in(alloc, bytes.as_slice(), place),
         Err(fault) => match fault {
             FolderFault::Missing => Ok(Vec::new(alloc)),

@@ -1,5 +1,4 @@
 mod Answered
 mod Descends
 mod Segments
-mod Told
 mod Walks

@@ -1,5 +1,4 @@
 -- An answer returned in a part of a sequence of calls was returned in the whole sequence.
-use Rattle.std.proofs.Common.{ℕ}
 use Rattle.gb_folder.specs.Answers.{IsOnWay, WereRead}
 use Rattle.gb_folder.specs.Calls.{Requests, Call, no_change}
 use Rattle.gb_folder.specs.Files.{Bytes, Place}

@@ -1,7 +1,7 @@
 -- What sequences of calls request of a folder: lemmas for callers of folders.
-use Rattle.std.proofs.Common.{◌≡◌, ◌≤◌, ℕ, Bool, true, List, Option, Some, None, refl, sym, ◌∙◌, arith, subst}
+use Rattle.std.proofs.Common.{◌≡◌, ℕ, Bool, true, List, Option, Some, None, refl, sym, ◌∙◌, arith, subst}
 use Rattle.gb_folder.specs.Calls.{Call, Lists, Reads, ReadsPart, Writes, Removes, Permit, IsPermitted, IsReachedBy, none, then, Requests, Device, OnlyReads, no_change, put_at, taken_at, takes_at, changes_at}
-use Rattle.gb_folder.specs.Files.{SameTearing}
+use Rattle.gb_folder.specs.Device.{IsCalled}
 use Rattle.gb_folder.proofs.Changes.{SameTearing-same, SameTearing-chain}
 
 -- ---- one call
@@ -14,11 +14,14 @@ pub taking_permitted : (place : List ℕ) → taken_at place place None
 unfolding taken_at
 taking_permitted place = (refl, refl)
 
-pub one_call : {F : Type 0} {device : Device F} {permit : Permit} {old new : F}
-    (call : Call) → IsPermitted permit call → device.failures old ≤ device.failures new → SameTearing (device.may_leave old) (device.may_leave new)
-    → (device.faithful new → device.faithful old) → device.allowed old call new
+pub one_call : {F : Type 0} {device : Device F} {permit : Permit} {old new : F} (call : Call) → IsPermitted permit call → IsCalled device old call new
     → Requests device permit old new
-one_call call permitted count tearing back is = record { count = count; tearing = tearing; back = back; calls = λ led. then call _ led permitted is }
+one_call call permitted is = record { count = is.count; tearing = is.tearing; back = is.back; calls = λ led. then call _ led permitted is }
+
+-- one that changes nothing
+pub one_read : {F : Type 0} {device : Device F} {old new : F} (call : Call) → IsPermitted no_change call → (device.faithful new → device.contents new ≡ device.contents old)
+    → IsCalled device old call new → OnlyReads device old new
+one_read call permitted same is = record { requests = one_call call permitted is; same = same }
 
 -- ---- no call
 
@@ -58,13 +61,13 @@ permitted_more wider (ReadsPart place at len answer) is = tt
 permitted_more wider (Writes place bytes limit answer) is = wider place (Some bytes) is
 permitted_more wider (Removes place answer) is = wider place None is
 
-module _ {F : Type 0} {allowed : F → Call → F → Type 0} where
+module _ {F : Type 0} {device : Device F} where
   leads_more : {some more : Permit} {old new : F} → ((place : List ℕ) (next : Option (List ℕ)) → some place next → more place next)
-      → IsReachedBy allowed some old new → IsReachedBy allowed more old new
+      → IsReachedBy device some old new → IsReachedBy device more old new
   leads_more wider none = none
   leads_more wider (then call new led permitted is) = then call new (leads_more wider led) (permitted_more wider call permitted) is
 
-  leads_on : {permit : Permit} {old mid new : F} → IsReachedBy allowed permit old mid → IsReachedBy allowed permit mid new → IsReachedBy allowed permit old new
+  leads_on : {permit : Permit} {old mid new : F} → IsReachedBy device permit old mid → IsReachedBy device permit mid new → IsReachedBy device permit old new
   leads_on first none = first
   leads_on first (then call new led permitted is) = then call new (leads_on first led) permitted is
 
@@ -96,7 +99,7 @@ requests_taken {permit = permit} place may takes =
 
 -- the calls themselves
 pub led : {F : Type 0} {device : Device F} {permit : Permit} {old new : F}
-    → Requests device permit old new → IsReachedBy device.allowed permit old new
+    → Requests device permit old new → IsReachedBy device permit old new
 led requests = requests.calls none
 
 -- ---- changes where a test holds

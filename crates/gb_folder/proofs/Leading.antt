@@ -2,7 +2,7 @@
 use Rattle.std.specs.Prelude.{◌≡◌, ◌≤◌, ◌++◌, List, [], ◌∷◌, Option, Some, None, Ok, Err}
 use Rattle.std.specs.List.{AllByRecursion}
 use Rattle.std.proofs.Common.{refl, sym, subst, arith}
-use Rattle.gb_folder.specs.Calls.{Device, Requests, Call, IsPermitted, Lists, Permit, Reads, ReadsPart, Removes, Writes}
+use Rattle.gb_folder.specs.Calls.{Device, IsReachedBy, Requests, Call, IsPermitted, Lists, Permit, none, then, Reads, ReadsPart, Removes, Writes}
 use Rattle.gb_folder.specs.Device.{IsCalled, Leads}
 use Rattle.gb_folder.specs.Files.{Bytes, Contents, IsFolder, IsTorn, Place, SameTearing, Tearing}
 use Rattle.gb_folder.specs.Semantics.{Answers, AnswersAll}
@@ -22,7 +22,18 @@ module _ {F : Type 0} (device : Device F) where
 
   pub requests_of : (permit : Permit) (old new : F) (calls : List Call) → AllByRecursion (IsPermitted permit) calls → Leads device old calls new → Requests device permit old new
   requests_of permit old new [] all same = subst (λ (f : F). Requests device permit old f) (sym same) (requests_nothing old)
-  requests_of permit old new (call ∷ calls) all led = requests_then (one_call call all.0 led.1.count led.1.tearing led.1.back led.1.allowed) (requests_of permit led.0 new calls all.1 led.2)
+  requests_of permit old new (call ∷ calls) all led = requests_then (one_call call all.0 led.1) (requests_of permit led.0 new calls all.1 led.2)
+
+  -- requests are such calls
+  all_then : (P : Call → Type 0) (calls : List Call) (call : Call) → AllByRecursion P calls → P call → AllByRecursion P (calls ++ call ∷ [])
+  all_then P [] call all holds = (holds, tt)
+  all_then P (first ∷ calls) call all holds = (all.0, all_then P calls call all.1 holds)
+
+  pub calls_in : (permit : Permit) (old : F) {new : F} → IsReachedBy device permit old new → (calls : List Call) × Leads device old calls new × AllByRecursion (IsPermitted permit) calls
+  calls_in permit old none = ([], refl, tt)
+  calls_in permit old (then {mid = mid} call new led permitted is) =
+      let before = calls_in permit old led in
+      (before.0 ++ call ∷ [], leads_on old mid new before.0 (call ∷ []) before.1 (leads_once mid new call is), all_then (IsPermitted permit) before.0 call before.2 permitted)
 
   pub count_of : (old new : F) (calls : List Call) → Leads device old calls new → device.failures old ≤ device.failures new
   count_of old new [] same = subst (λ (f : F). device.failures old ≤ device.failures f) (sym same) (omega arith)

@@ -10,6 +10,6 @@ pub mod Leaving
 pub mod Asked
 pub mod Noting
 pub mod Answering
-pub mod Exact
+pub mod Said
 pub mod Leading
 pub mod EachOf

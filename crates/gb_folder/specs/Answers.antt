@@ -1,5 +1,5 @@
 -- Answers of calls that were made between two states of a folder, over any folder.
-use Rattle.std.specs.Prelude.{ℕ, List, Ok}
+use Rattle.std.specs.Prelude.{List, Ok}
 use Rattle.gb_folder.specs.Calls.{Device, Requests, Call, Lists, Reads, no_change}
 use Rattle.gb_folder.specs.Files.{Bytes, Place}
 use Rattle.gb_folder.specs.Limits.{max_file}

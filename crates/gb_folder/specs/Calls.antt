@@ -1,40 +1,8 @@
--- Calls of a folder, and the changes that a sequence of calls may request.
-use Rattle.std.specs.Prelude.{ℕ, ◌≡◌, ◌≤◌, Bool, List, Option, Some, None, Result, Ok, Err, IsTrue, ⊤}
-use Rattle.std.specs.Global.{Global}
-use Rattle.std.specs.Result.{result_err}
-use Rattle.std.specs.declared.vec.Vec.{Vec}
-use Rattle.gb_folder.specs.Files.{Place, Bytes, Contents, Tearing, SameTearing}
-use Rattle.gb_folder.specs.declared.folder.FolderFault.{FolderFault}
-
--- a call of a folder, with its answer
-pub data Call : Type 0 where
-  Lists : (root : Place) (answer : Result (List Place) FolderFault) → Call
-  Reads : (place : Place) (limit : ℕ) (answer : Result Bytes FolderFault) → Call
-  ReadsPart : (place : Place) (at len : ℕ) (answer : Result Bytes FolderFault) → Call
-  Writes : (place : Place) (bytes : Bytes) (limit : ℕ) (answer : Result (Unit {0}) FolderFault) → Call
-  Removes : (place : Place) (answer : Result (Unit {0}) FolderFault) → Call
-
--- the answer of a call that returns a vector, as a list
-abbrev pub answered : {T : Type 0} → Result (Vec T Global) FolderFault → Result (List T) FolderFault
-answered (Ok row) = Ok row.items
-answered (Err fault) = Err fault
-
--- the returned fault, if there is one
-abbrev pub fault_of : Call → Option FolderFault
-fault_of (Lists root answer) = result_err answer
-fault_of (Reads place limit answer) = result_err answer
-fault_of (ReadsPart place at len answer) = result_err answer
-fault_of (Writes place bytes limit answer) = result_err answer
-fault_of (Removes place answer) = result_err answer
-
--- What a type of folders declares about itself: how often the device failed, what a stopped call may leave,
--- which call may lead from one state to another, in which states the contents are known, and these contents.
-pub record Device (F : Type 0) : Type 1 where
-  pub failures : F → ℕ
-  pub may_leave : F → Tearing
-  pub allowed : F → Call → F → Type 0
-  pub faithful : F → Type 0
-  pub contents : F → Contents
+-- The changes that a sequence of calls may request.
+use Rattle.std.specs.Prelude.{◌≡◌, ◌≤◌, Bool, Option, Some, None, IsTrue, ⊤}
+use Rattle.gb_folder.specs.Files.{Place, Bytes, Contents, SameTearing}
+use Rattle.gb_folder.specs.Device.{IsCalled}
+pub use Rattle.gb_folder.specs.Call.{Call, Lists, Reads, ReadsPart, Writes, Removes, answered, fault_of, Device}
 
 -- Which change may be requested at a place: to write these bytes, or to remove the file there.
 abbrev pub Permit : Type 1
@@ -49,11 +17,10 @@ IsPermitted permit (Writes place bytes limit answer) = permit place (Some bytes)
 IsPermitted permit (Removes place answer) = permit place None
 
 -- such calls, one after another, lead from the first state of the folder to the second
-pub data IsReachedBy {F : Type 0} (allowed : F → Call → F → Type 0) (permit : Permit) (old : F)
-    : F → Type 0 where
-  none : IsReachedBy allowed permit old old
-  then : {mid : F} (call : Call) (new : F) → IsReachedBy allowed permit old mid → IsPermitted permit call
-      → allowed mid call new → IsReachedBy allowed permit old new
+pub data IsReachedBy {F : Type 0} (device : Device F) (permit : Permit) (old : F) : F → Type 0 where
+  none : IsReachedBy device permit old old
+  then : {mid : F} (call : Call) (new : F) → IsReachedBy device permit old mid → IsPermitted permit call
+      → IsCalled device mid call new → IsReachedBy device permit old new
 
 -- The requests to a folder between two of its states: if such calls led to the first state, such calls lead
 -- to the second. The device's count of failures never falls. What a stopped call may leave stays the same. If
@@ -62,8 +29,7 @@ pub record Requests {F : Type 0} (device : Device F) (permit : Permit) (old new 
   pub count : device.failures old ≤ device.failures new
   pub tearing : SameTearing (device.may_leave old) (device.may_leave new)
   pub back : device.faithful new → device.faithful old
-  pub calls : {first : F} → IsReachedBy device.allowed permit first old
-      → IsReachedBy device.allowed permit first new
+  pub calls : {first : F} → IsReachedBy device permit first old → IsReachedBy device permit first new
 
 -- no change is requested
 unfoldable pub no_change : Permit

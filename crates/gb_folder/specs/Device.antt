@@ -5,7 +5,7 @@ use Rattle.std.specs.List.{AllPass}
 use Rattle.std.specs.List.Sorted.{IsStrictlySortedBy}
 use Rattle.gb_core.specs.Lists.{byte_order}
 use Rattle.gb_core.specs.Place.{is_under}
-use Rattle.gb_folder.specs.Calls.{Call, Device, Lists, Reads, ReadsPart, Writes, Removes, fault_of}
+use Rattle.gb_folder.specs.Call.{Call, Device, Lists, Reads, ReadsPart, Writes, Removes, fault_of}
 use Rattle.gb_folder.specs.Files.{Bytes, HasRisen, Place, SameTearing}
 use Rattle.gb_folder.specs.Semantics.{Answer, Answers}
 use Rattle.gb_folder.specs.declared.folder.FolderFault.{FolderFault}

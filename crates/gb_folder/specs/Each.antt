@@ -1,6 +1,6 @@
 -- The calls that it takes to process each item of a list.
 use Rattle.std.specs.Prelude.{◌≡◌, ◌++◌, List, [], ◌∷◌, Result, Ok, Err}
-use Rattle.gb_folder.specs.Calls.{Call}
+use Rattle.gb_folder.specs.Call.{Call}
 
 -- the outcome of work without a result of its own: success, or the fault that ended it
 abbrev pub Ended : Type 0 → Type 0

@@ -1,4 +1,5 @@
 pub mod Files
+pub mod Call
 pub mod Calls
 pub mod Semantics
 pub mod Device

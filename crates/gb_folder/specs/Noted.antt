@@ -1,6 +1,6 @@
 -- Folders that record the requested changes.
 use Rattle.std.specs.Prelude.{◌≡◌, ◌⊎◌, List, [], ◌∷◌, ◌++◌, Some, None}
-use Rattle.gb_folder.specs.Calls.{Call, Lists, Reads, ReadsPart, Writes, Removes, fault_of}
+use Rattle.gb_folder.specs.Call.{Call, Lists, Reads, ReadsPart, Writes, Removes, fault_of}
 use Rattle.gb_folder.specs.declared.folder.FolderFault.TheVariants.{OutOfMemory}
 use Rattle.gb_folder.specs.declared.noted.Note.{Note}
 

@@ -1,7 +1,7 @@
 -- The answer of a folder to a call, and its contents after the call.
 use Rattle.std.specs.Prelude.{ℕ, ◌≡◌, ◌<◌, ◌≤◌, false, List, [], ◌∷◌, Some, None, Result, Ok, Err, IsTrue}
 use Rattle.std.specs.Prelude.{length, take, drop, IsSome}
-use Rattle.gb_folder.specs.Calls.{Call, Lists, Reads, ReadsPart, Writes, Removes}
+use Rattle.gb_folder.specs.Call.{Call, Lists, Reads, ReadsPart, Writes, Removes}
 use Rattle.gb_folder.specs.Files.{Bytes, Contents, IsFolder, IsTorn, Place, Tearing, file_at, is_blocked}
 use Rattle.gb_folder.specs.Files.{is_special_under, places_under, with_file, without}
 use Rattle.gb_folder.specs.declared.folder.FolderFault.{FolderFault}

@@ -1,5 +1,5 @@
 //! Theorems about sequences of folder calls.
-ghost use Rattle.std.specs.Prelude.{Bool, List};
+ghost use Rattle.std.specs.Prelude.{◌↔◌, Bool, List};
 ghost use Rattle.std.specs.List.{AllByRecursion};
 ghost use Rattle.gb_folder.specs.Calls.{Requests, Call, IsPermitted, changes_at};
 ghost use Rattle.gb_folder.specs.Device.{Leads};
@@ -14,9 +14,10 @@ pub fn calls_are_exact<F: Folder>()
         → AnswersAll (F.device.may_leave old) (F.device.contents old) calls (F.device.contents new) }
 {}
 
-/// Calls that change files only where a test holds request no other change.
-pub fn calls_ask_for_no_more<F: Folder>()
-    ensures { (test : Place → Bool) (old new : F) (calls : List Call)
-        → AllByRecursion (IsPermitted (changes_at test)) calls → Leads F.device old calls new
-        → Requests F.device (changes_at test) old new }
+/// What is requested between two states of a folder is a list of calls, with their answers, which lead
+/// from the one to the other and change files only where the test holds; and the other way round.
+pub fn requests_are_calls<F: Folder>()
+    ensures { (test : Place → Bool) (old new : F) → Requests F.device (changes_at test) old new
+        ↔ ((calls : List Call) × Leads F.device old calls new
+        × AllByRecursion (IsPermitted (changes_at test)) calls) }
 {}

@@ -1,18 +1,18 @@
 //! The only way in which the build accesses files.
 //!
-//! [`Folder`](folder::Folder) is five calls over places. Code over a folder is proved once, for
-//! every type of folder. Its contracts say which calls were made, with which bytes, and what they
-//! returned, by the relation `allowed` of the type: which call may lead from which state to which.
-//! A folder on a disk keeps its calls for proofs, so they hold of it too. Where the contents of the
-//! folder are known (`faithful`), each result is exact: a refused call changes nothing, and only a
-//! device fault in a write or a removal may leave something else, at the place of the call. Those of
-//! a folder in memory are always known. Of one on a disk contents may be supposed, and are known as
-//! long as its answers are theirs. `proofs/Changes.antt` has lemmas for callers.
+//! [`Folder`](folder::Folder) is five calls over places, each with one clause (`IsCalled` of
+//! `specs/Device.antt`): which call it was, with its answer, and how it led from one state of the
+//! folder to the next. Code over a folder is proved once, for every type of folder. Its contracts say
+//! which calls were made, with which bytes, and what they returned. A folder on a disk keeps its
+//! calls for proofs, so they hold of it too. Where the contents of the folder are known (`faithful`),
+//! each answer is exact (`Answers` of `specs/Semantics.antt`): a refused call changes nothing, and
+//! only a device fault in a write or a removal may leave something else, at the place of the call.
+//! Those of a folder in memory are always known. Of one on a disk contents may be supposed, and are
+//! known as long as its answers are theirs.
 //!
-//! A list of calls with their answers is a value too. `specs/Device.antt` defines when such a list
-//! leads from one folder to another, over any folder. `specs/Semantics.antt` defines the answer of
-//! each call over known contents, and [`calls`] has the five calls with one clause each.
-//! `specs/Each.antt` has the calls of a function that processes a list.
+//! [`calls`] has the five calls for callers: what follows from that clause, fact by fact.
+//! `proofs/Changes.antt` has lemmas for them. `specs/Each.antt` has the calls of a function that
+//! processes a list.
 //!
 //! [`MemoryFolder`](memory::MemoryFolder) has files in memory.
 //! [`FaultyFolder`](faulty::FaultyFolder) makes a chosen call of its inner folder fail, and all
@@ -21,8 +21,8 @@
 //! one may be in the way of another.
 //!
 //! Two laws: `calls_are_exact` (over known contents a call returns and leaves what its definition
-//! says) and `calls_ask_for_no_more` (calls that change files only where a test holds change
-//! nothing else).
+//! says) and `requests_are_calls` (what is requested between two states is a list of calls that lead
+//! from the one to the other, and the other way round).
 //!
 //! Out of scope: handles, streams, folders as objects of their own, permissions and times. A folder
 //! exists where a file exists under it, and a large file is read in parts.

@@ -34,9 +34,9 @@ built_on_disk tables keeps law given answer old new begins (inr requested) =
 
 -- ---- What was supposed
 
-kept_along : {R : Type 0} (permit : Permit) (old : DiskFolder R) {new : DiskFolder R} → IsReachedBy is_next permit old new → supposed_of new ≡ supposed_of old
+kept_along : {R : Type 0} (permit : Permit) (old : DiskFolder R) {new : DiskFolder R} → IsReachedBy disk_device permit old new → supposed_of new ≡ supposed_of old
 kept_along permit old none = refl
-kept_along permit old (then call new led permitted is) = is.1 ∙ kept_along permit old led
+kept_along permit old (then call new led permitted is) = is.allowed.1 ∙ kept_along permit old led
 
 kept_by : {R : Type 0} (permit : Permit) (old new : DiskFolder R) → Requests disk_device permit old new → supposed_of new ≡ supposed_of old
 kept_by permit old new requests = kept_along permit old (requests.calls none)

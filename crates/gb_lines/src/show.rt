@@ -4,6 +4,7 @@ ghost use Rattle.gb_lines.specs.Texts.{closing, shown_file, shown_files};
 
 use crate::stop::Stop;
 use gb_core::place::Place;
+use gb_folder::calls::{list, read};
 use gb_folder::folder::Folder;
 use std::alloc::{AllocError, Global};
 
@@ -15,13 +16,13 @@ pub fn shown_files<F: Folder>(alloc: Global, folder: &mut F, place: &Place) -> R
     ensures shown { F.device.faithful folder.new → IfOk result (λ text.
         text.items ≡ shown_files (F.device.contents folder.old).files place.now) }
 {
-    let places = folder.list(alloc, place)?;
+    let places = list(alloc, folder, place)?;
     if places.is_empty() {
         return Ok(b"== none\n".to_vec(alloc)?);
     }
     let mut text = Vec::new(alloc);
     for place in places.iter() {
-        let bytes = folder.read(alloc, place, u64::MAX)?;
+        let bytes = read(alloc, folder, place, u64::MAX)?;
         push_file(alloc, &mut text, place, bytes.as_slice())?;
     }
     Ok(text)

@@ -19,6 +19,7 @@ use crate::fault::{Unwritten, unwritten_by};
 use crate::stored_records::MAX_RECORD;
 use gb_core::path::TaskPath;
 use gb_core::place::{Place, PlaceFault};
+use gb_folder::calls::{remove, write};
 use gb_folder::folder::{Folder, FolderFault};
 use gb_history::record::Record;
 use gb_history::record_place::record_place;
@@ -59,7 +60,7 @@ pub fn delete_record<F: Folder>(
         return Ok(());
     }
     let place = place_of(alloc, path)?;
-    match folder.remove(&place) {
+    match remove(folder, &place) {
         Ok(()) => Ok(()),
         Err(fault) => unless_missing(fault),
     }
@@ -106,7 +107,7 @@ pub fn store_record<F: Folder>(
         return Err(Unwritten::NotWritten);
     }
     let place = place_of(alloc, path)?;
-    match folder.write(&place, text.as_slice(), MAX_RECORD) {
+    match write(folder, &place, text.as_slice(), MAX_RECORD) {
         Ok(()) => Ok(()),
         Err(fault) => Err(unwritten_by(fault)),
     }

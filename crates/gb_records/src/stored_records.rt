@@ -19,6 +19,7 @@ ghost use Rattle.gb_records.specs.Texts.{WasTextAnswered, unsealed_in};
 use gb_core::bytes::Bytes;
 use gb_core::path::TaskPath;
 use gb_core::place::{Place, PlaceFault};
+use gb_folder::calls::read;
 use gb_folder::folder::{Folder, FolderFault};
 use gb_history::fault::RecordFault;
 use gb_history::record::Record;
@@ -130,7 +131,7 @@ fn read_text<F: Folder>(
         Ok(place) => place,
         Err(fault) => return none_if_no_place(fault),
     };
-    match folder.read(alloc, &place, MAX_RECORD) {
+    match read(alloc, folder, &place, MAX_RECORD) {
         Ok(bytes) => Ok(Some(Bytes::new(bytes))),
         Err(fault) => none_if_missing(fault, place),
     }

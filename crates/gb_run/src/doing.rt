@@ -6,7 +6,6 @@ ghost use Rattle.gb_run.specs.Doing.{Does, Tried, write_ending};
 
 use gb_core::bytes::Bytes;
 use gb_core::place::Place;
-use gb_folder::calls::write;
 use gb_folder::folder::{Folder, FolderFault};
 use gb_folder::limits::MAX_FILE;
 use gb_report::fault::Fault;
@@ -40,7 +39,7 @@ fn write_file<F: Folder>(folder: &mut F, place: &Place, bytes: &Bytes) -> Result
     ensures { Tried F.device (place.now, Some bytes.now) folder.old result folder.new }
 {
     let at = place.copy()?;
-    let answer = write(folder, place, bytes.as_slice(), MAX_FILE);
+    let answer = folder.write(place, bytes.as_slice(), MAX_FILE);
     write_ending(answer, at)
 }
 

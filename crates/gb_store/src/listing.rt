@@ -10,6 +10,7 @@ ghost use Rattle.gb_store.specs.Removals.{WasListed};
 
 use crate::faults::fault_at;
 use gb_core::place::Place;
+use gb_folder::calls::list;
 use gb_folder::folder::Folder;
 use gb_report::fault::Fault;
 use std::alloc::Global;
@@ -35,7 +36,7 @@ pub fn listed_at<F: Folder>(
         ⊎ (IsTrue (is_special_under (F.device.contents folder.old) place.now)
         × (fault ≡ Fault.BadFileName place.now))) }
 {
-    match folder.list(alloc, place) {
+    match list(alloc, folder, place) {
         Ok(places) => Ok(places),
         Err(fault) => Err(fault_at(fault, place)),
     }

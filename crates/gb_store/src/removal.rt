@@ -9,6 +9,7 @@ ghost use Rattle.gb_store.specs.Removals.{Removals, WasRemoved, unless_absent};
 
 use crate::faults::fault_of;
 use gb_core::place::Place;
+use gb_folder::calls::remove;
 use gb_folder::folder::{Folder, FolderFault};
 use gb_report::fault::Fault;
 
@@ -58,7 +59,7 @@ pub fn remove_at<F: Folder>(folder: &mut F, place: &Place) -> Result<(), Fault>
         → ChangesOnly test (F.device.contents folder.old) (F.device.contents folder.new) }
 {
     let at = place.copy()?;
-    match folder.remove(place) {
+    match remove(folder, place) {
         Ok(()) => Ok(()),
         Err(fault) => unless_absent(fault, at),
     }

@@ -18,6 +18,7 @@ use crate::fault::{TreeFault, fault_at};
 use gb_action::files::Files;
 use gb_core::bytes::Bytes;
 use gb_core::place::{Place, RelPath};
+use gb_folder::calls::{list, read, read_part};
 use gb_folder::folder::Folder;
 use gb_folder::limits::MAX_FILE;
 use sha2::{Digest, Sha256};
@@ -51,9 +52,7 @@ pub(crate) fn listed<F: Folder>(
         ⊎ (IsTrue (is_special_under (F.device.contents folder.old) place.now)
         × (fault ≡ TreeFault.BadFileName place.now))) }
 {
-    folder
-        .list(alloc, place)
-        .map_err(|fault| fault_at(fault, place))
+    list(alloc, folder, place).map_err(|fault| fault_at(fault, place))
 }
 
 /// The bytes of one file.
@@ -79,7 +78,7 @@ pub(crate) fn read_file<F: Folder>(
         ⊎ ((is_large (F.device.contents folder.old).files place.now ≡ true)
         × (fault ≡ TreeFault.TooLarge place.now))) }
 {
-    match folder.read(alloc, place, MAX_FILE) {
+    match read(alloc, folder, place, MAX_FILE) {
         Ok(bytes) => Ok(Bytes::new(bytes)),
         Err(fault) => Err(fault_at(fault, place)),
     }
@@ -134,7 +133,7 @@ pub(crate) fn read_piece<F: Folder>(
         → IsSome (file_at (F.device.contents folder.old).files place.now)
         → IfErr result (λ fault. IsTreeFaultBetween F.device folder.old folder.new fault) }
 {
-    match folder.read_part(alloc, place, at, len) {
+    match read_part(alloc, folder, place, at, len) {
         Ok(piece) => Ok(piece),
         Err(fault) => Err(fault_at(fault, place)),
     }

@@ -28,12 +28,12 @@ pub returns-in-Ok-clause-requests : goal.returns-in-Ok-clause-requests
 returns-in-Ok-clause-requests g c =
     inr (
       c.write.result,
-      subst (λ (bytes : List ℕ). g.F.Folder.device.allowed c.args.folder.now (Writes c.args.place.now bytes max_file c.write.result) c.write.new.self) c.as_slice.ensures c.write.ensures.call,
+      subst (λ (bytes : List ℕ). g.F.Folder.device.allowed c.args.folder.now (Writes c.args.place.now bytes max_file c.write.result) c.write.new.self) c.as_slice.ensures c.write.ensures.called.allowed,
     )
 
 pub returns-in-Err-clause-requests : goal.returns-in-Err-clause-requests
 returns-in-Err-clause-requests g c =
     inr (
       c.write.result,
-      subst (λ (bytes : List ℕ). g.F.Folder.device.allowed c.args.folder.now (Writes c.args.place.now bytes max_file c.write.result) c.write.new.self) c.as_slice.ensures c.write.ensures.call,
+      subst (λ (bytes : List ℕ). g.F.Folder.device.allowed c.args.folder.now (Writes c.args.place.now bytes max_file c.write.result) c.write.new.self) c.as_slice.ensures c.write.ensures.called.allowed,
     )

@@ -1,8 +1,6 @@
 use Rattle.std.proofs.Common.{◌≡◌, true, true≢false, Ok, Err, None, OnOk, IfErr, ap, subst, sym, ◌∙◌}
-use Rattle.gb_folder.specs.Calls.{Removes}
-use Rattle.gb_folder.specs.Device.{IsCalled}
 use Rattle.gb_folder.specs.Each.{Ended}
-use Rattle.gb_folder.proofs.Exact.{change_failed, removed, removes_well}
+use Rattle.gb_folder.proofs.Exact.{removed}
 use Rattle.gb_folder.specs.Files.{file_at, is_blocked, without}
 use Rattle.gb_history.specs.Places.{record_place}
 use Rattle.gb_records.specs.Called.{deletion_ending}
@@ -44,17 +42,7 @@ returns g c =
     let sound = g.met.F.Folder.sound c.args.folder.now in
     let allowed = c.remove.ensures in
     let said = c.remove.ensures in
-    let called : IsCalled F.device c.args.folder.now (Removes c.in_ok-place.place c.remove.result) c.remove.new.self =
-    record {
-      allowed = said.call;
-      well = removes_well c.remove.result said.not_large said.not_named;
-      count = said.requests.count;
-      tearing = said.requests.tearing;
-      risen = λ is. said.risen (change_failed c.remove.result is);
-      back = said.requests.back;
-      exact = λ faithful. removed (F.device.may_leave c.args.folder.now) (F.device.contents c.args.folder.now) c.in_ok-place.place c.remove.result (F.device.contents c.remove.new.self)
-          said.not_large said.not_named (said.removed faithful) (said.existed faithful) (said.missing faithful) (said.missing_free faithful) (said.blocked faithful) (said.same faithful) (said.torn faithful);
-    } in
+    let called = c.remove.ensures.called in
     record {
       calls = deletion_called F.device path c.args.was_read c.in_ok-place.place c.args.folder.now c.remove.new.self c.remove.result c.unless_missing.result c.if-not-was_read.false at called
           (c.unless_missing.ensures ∙ ap deletion_ending (sym c.in-Err.is));
@@ -85,17 +73,7 @@ pub returns-in-Ok-clause-calls : goal.returns-in-Ok-clause-calls
 returns-in-Ok-clause-calls g c =
     let F = g.F.Folder in
     let said = c.remove.ensures in
-    let called : IsCalled F.device c.args.folder.now (Removes c.in_ok-place.place c.remove.result) c.remove.new.self =
-    record {
-      allowed = said.call;
-      well = removes_well c.remove.result said.not_large said.not_named;
-      count = said.requests.count;
-      tearing = said.requests.tearing;
-      risen = λ is. said.risen (change_failed c.remove.result is);
-      back = said.requests.back;
-      exact = λ faithful. removed (F.device.may_leave c.args.folder.now) (F.device.contents c.args.folder.now) c.in_ok-place.place c.remove.result (F.device.contents c.remove.new.self)
-          said.not_large said.not_named (said.removed faithful) (said.existed faithful) (said.missing faithful) (said.missing_free faithful) (said.blocked faithful) (said.same faithful) (said.torn faithful);
-    } in
+    let called = c.remove.ensures.called in
     deletion_called F.device c.args.path.now c.args.was_read c.in_ok-place.place c.args.folder.now c.remove.new.self c.remove.result (Ok tt) c.if-not-was_read.false c.in_ok-place.ensures.place called
     (ap deletion_ending (sym c.in-Ok.is))
 

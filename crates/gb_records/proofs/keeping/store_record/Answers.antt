@@ -1,8 +1,5 @@
 use Rattle.std.proofs.Common.{◌≡◌, ◌<◌, ◌≤◌, length, Err, Ok, Some, ap, subst, sym, ◌∙◌, arith}
-use Rattle.gb_folder.specs.Calls.{Writes}
-use Rattle.gb_folder.specs.Device.{IsCalled}
 use Rattle.gb_folder.specs.Files.{with_file}
-use Rattle.gb_folder.proofs.Exact.{change_failed, writes_well, wrote}
 use Rattle.gb_folder.specs.declared.folder.FolderFault.TheVariants as folders
 use Rattle.gb_meaning.specs.Events.{max_record}
 use Rattle.gb_history.specs.Places.{record_place}
@@ -77,17 +74,7 @@ returns-in-Ok-clause-calls g c =
     let said = c.write.ensures in
     let path = c.args.path.now in
     let text = record_text path c.args.run.now in
-    let called : IsCalled F.device old (Writes place bytes max_record c.write.result) new =
-    record {
-      allowed = said.call;
-      well = writes_well bytes max_record c.write.result said.within said.large said.not_missing said.not_named;
-      count = said.requests.count;
-      tearing = said.requests.tearing;
-      risen = λ is. said.risen (change_failed c.write.result is);
-      back = said.requests.back;
-      exact = λ faithful. wrote (F.device.may_leave old) (F.device.contents old) place bytes max_record c.write.result (F.device.contents new) said.within
-          said.large said.not_missing said.not_named (said.written faithful) (said.free faithful) (said.blocked faithful) (said.same faithful) (said.torn faithful);
-    } in
+    let called = c.write.ensures.called in
     storing_called F.device path c.args.run.now place bytes old new c.write.result (Ok tt)
     c.in_ok-place.ensures.place (c.as_slice.ensures.value ∙ c.in_ok-text.ensures.text) called (ap storing_ending (sym c.in-Ok.is))
     (text_of path c.args.run.now c.in_ok-text.text.items c.in_ok-text.ensures.text c.in_ok-text.ensures.utf8 c.in_ok-text.ensures.held (omega arith))
@@ -102,17 +89,7 @@ returns-clause-calls g c =
     let said = c.write.ensures in
     let path = c.args.path.now in
     let text = record_text path c.args.run.now in
-    let called : IsCalled F.device old (Writes place bytes max_record c.write.result) new =
-    record {
-      allowed = said.call;
-      well = writes_well bytes max_record c.write.result said.within said.large said.not_missing said.not_named;
-      count = said.requests.count;
-      tearing = said.requests.tearing;
-      risen = λ is. said.risen (change_failed c.write.result is);
-      back = said.requests.back;
-      exact = λ faithful. wrote (F.device.may_leave old) (F.device.contents old) place bytes max_record c.write.result (F.device.contents new) said.within
-          said.large said.not_missing said.not_named (said.written faithful) (said.free faithful) (said.blocked faithful) (said.same faithful) (said.torn faithful);
-    } in
+    let called = c.write.ensures.called in
     storing_called F.device path c.args.run.now place bytes old new c.write.result (Err c.unwritten_by.result)
     c.in_ok-place.ensures.place (c.as_slice.ensures.value ∙ c.in_ok-text.ensures.text) called (ap Err c.unwritten_by.ensures ∙ ap storing_ending (sym c.in-Err.is))
     (text_of path c.args.run.now c.in_ok-text.text.items c.in_ok-text.ensures.text c.in_ok-text.ensures.utf8 c.in_ok-text.ensures.held (omega arith))

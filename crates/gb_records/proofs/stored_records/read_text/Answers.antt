@@ -48,6 +48,6 @@ returns-in-Ok-read-clause-answered g c =
     let bytes = c.in-Ok-read.bytes.items in
     let call : F.device.allowed old (Reads (record_place c.args.path.now) max_record (Ok bytes)) new =
     subst (λ (place : List ℕ). F.device.allowed old (Reads place max_record (Ok bytes)) new) c.in-Ok.ensures.place
-    (subst (λ r. F.device.allowed old (Reads c.in-Ok.place max_record (answered r)) new) c.in-Ok-read.is c.read.ensures.call) in
+    (subst (λ r. F.device.allowed old (Reads c.in-Ok.place max_record (answered r)) new) c.in-Ok-read.is c.read.ensures.called.allowed) in
     subst (λ (made : List ℕ). (length made ≤ max_record) × IsOnWay F.device (Reads (record_place c.args.path.now) max_record (Ok made)) old new)
     (sym c.new.ensures) (c.in-Ok-read.ensures.within, on_way_here call)

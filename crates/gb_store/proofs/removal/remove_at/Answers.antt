@@ -3,9 +3,7 @@ use Rattle.std.specs.Cmp.Lexicographic.{bytes_decides}
 use Rattle.std.proofs.lemmas.Result.{on_ok_weaker, IfErr-weaker, IfErr-at_err}
 use Rattle.gb_folder.specs.declared.folder.FolderFault.{FolderFault}
 use Rattle.gb_folder.specs.declared.folder.FolderFault.TheVariants as folders
-use Rattle.gb_folder.specs.Calls.{Removes}
-use Rattle.gb_folder.specs.Device.{IsCalled}
-use Rattle.gb_folder.proofs.Exact.{change_failed, removed, removes_well}
+use Rattle.gb_folder.proofs.Exact.{removed}
 use Rattle.gb_folder.specs.Files.{Contents, IsFolder, Place, file_at}
 use Rattle.gb_store.specs.Changes.{IsHindered, without_all}
 use Rattle.gb_store.specs.Faults.{reported_at}
@@ -21,17 +19,7 @@ returns-in-Ok-clause-call g c =
     let F = g.F.Folder in
     let place = c.args.place.now in
     let said = c.remove.ensures in
-    let called : IsCalled F.device c.args.folder.now (Removes place c.remove.result) c.remove.new.self =
-    record {
-      allowed = said.call;
-      well = removes_well c.remove.result said.not_large said.not_named;
-      count = said.requests.count;
-      tearing = said.requests.tearing;
-      risen = λ is. said.risen (change_failed c.remove.result is);
-      back = said.requests.back;
-      exact = λ faithful. removed (F.device.may_leave c.args.folder.now) (F.device.contents c.args.folder.now) place c.remove.result (F.device.contents c.remove.new.self)
-          said.not_large said.not_named (said.removed faithful) (said.existed faithful) (said.missing faithful) (said.missing_free faithful) (said.blocked faithful) (said.same faithful) (said.torn faithful);
-    } in
+    let called = c.remove.ensures.called in
     inr (c.remove.result, called, ap (removal_ending place) (sym c.in-Ok.is))
 
 pub returns-in-Ok-clause-changes : goal.returns-in-Ok-clause-changes
@@ -61,17 +49,7 @@ returns-in-Err g c =
     let allowed = c.remove.ensures in
     let as_reported : reported_at c.in_ok-at.at fault ≡ reported_at place fault = ap (λ p. reported_at p fault) c.in_ok-at.ensures in
     let said = c.remove.ensures in
-    let called : IsCalled F.device c.args.folder.now (Removes place c.remove.result) c.remove.new.self =
-    record {
-      allowed = said.call;
-      well = removes_well c.remove.result said.not_large said.not_named;
-      count = said.requests.count;
-      tearing = said.requests.tearing;
-      risen = λ is. said.risen (change_failed c.remove.result is);
-      back = said.requests.back;
-      exact = λ faithful. removed (F.device.may_leave c.args.folder.now) (F.device.contents c.args.folder.now) place c.remove.result (F.device.contents c.remove.new.self)
-          said.not_large said.not_named (said.removed faithful) (said.existed faithful) (said.missing faithful) (said.missing_free faithful) (said.blocked faithful) (said.same faithful) (said.torn faithful);
-    } in
+    let called = c.remove.ensures.called in
     record {
       call = inr (
         c.remove.result,

@@ -1,30 +1,17 @@
-use Rattle.std.proofs.Common.{rules, subst}
-use Rattle.gb_folder.specs.Calls.{Reads, answered}
-use Rattle.gb_folder.specs.Files.{file_at}
-use Rattle.gb_folder.specs.Semantics.{Read}
-use Rattle.gb_folder.proofs.Asked.{one_call}
-use Rattle.gb_disk.specs.Shown.{shown}
+use Rattle.std.proofs.Common.{rules}
+use Rattle.gb_folder.specs.Call.{Reads, answered}
 use Rattle.gb_disk.proofs.Answered.{answered as answered_by}
-use Rattle.gb_disk.proofs.Told.{found, is_larger}
 use Rattle.gb_disk.proofs.disk.DiskFolderFolder.read.Goals as goal
 
-pub returns-clause-requests : goal.returns-clause-requests
-returns-clause-requests g c = one_call (Reads c.args.place.now c.args.limit (answered c.counted-outcome.result)) tt (search rules) (search rules) (λ known. (answered_by c.args.self.now.log c.note.new.self.log (Reads c.args.place.now c.args.limit (answered c.counted-outcome.result)) (search rules) (search rules) known).0) (search rules)
-
-pub returns-clause-same : goal.returns-clause-same
-returns-clause-same g c = λ known. (answered_by c.args.self.now.log c.note.new.self.log (Reads c.args.place.now c.args.limit (answered c.counted-outcome.result)) (search rules) (search rules) known).1.1
-
-pub returns-clause-found : goal.returns-clause-found
-returns-clause-found g c = λ known. found (shown c.args.self.now.log) c.args.place.now c.args.limit c.counted-outcome.result (answered_by c.args.self.now.log c.note.new.self.log (Reads c.args.place.now c.args.limit (answered c.counted-outcome.result)) (search rules) (search rules) known).1.0
-
-pub returns-clause-missing : goal.returns-clause-missing
-returns-clause-missing g c = λ known is. (subst (λ r. Read (shown c.args.self.now.log) c.args.place.now c.args.limit (answered r)) is (answered_by c.args.self.now.log c.note.new.self.log (Reads c.args.place.now c.args.limit (answered c.counted-outcome.result)) (search rules) (search rules) known).1.0).0
-
-pub returns-clause-missing_free : goal.returns-clause-missing_free
-returns-clause-missing_free g c = λ known is. (subst (λ r. Read (shown c.args.self.now.log) c.args.place.now c.args.limit (answered r)) is (answered_by c.args.self.now.log c.note.new.self.log (Reads c.args.place.now c.args.limit (answered c.counted-outcome.result)) (search rules) (search rules) known).1.0).1
-
-pub returns-clause-blocked : goal.returns-clause-blocked
-returns-clause-blocked g c = λ known is. subst (λ r. Read (shown c.args.self.now.log) c.args.place.now c.args.limit (answered r)) is (answered_by c.args.self.now.log c.note.new.self.log (Reads c.args.place.now c.args.limit (answered c.counted-outcome.result)) (search rules) (search rules) known).1.0
-
-pub returns-clause-large : goal.returns-clause-large
-returns-clause-large g c = λ known is. is_larger (shown c.args.self.now.log) c.args.place.now c.args.limit (file_at (shown c.args.self.now.log).files c.args.place.now) (subst (λ r. Read (shown c.args.self.now.log) c.args.place.now c.args.limit (answered r)) is (answered_by c.args.self.now.log c.note.new.self.log (Reads c.args.place.now c.args.limit (answered c.counted-outcome.result)) (search rules) (search rules) known).1.0)
+pub returns : goal.returns
+returns g c =
+    let by = answered_by c.args.self.now.log c.note.new.self.log (Reads c.args.place.now c.args.limit (answered c.counted-outcome.result)) (search rules) (search rules) in
+    record {
+      allowed = search rules;
+      well = search rules;
+      count = search rules;
+      tearing = search rules;
+      risen = search rules;
+      back = λ known. (by known).0;
+      exact = λ known. (by known).1;
+    }

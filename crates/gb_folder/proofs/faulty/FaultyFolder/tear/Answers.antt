@@ -1,7 +1,9 @@
 use Rattle.std.proofs.Common.{◌≡◌, List, ℕ, Some, arith, refl, subst}
 use Rattle.std.specs.Prelude.{OnOk}
 use Rattle.gb_folder.specs.Files.{file_at, with_file}
+use Rattle.gb_folder.specs.declared.folder.FolderFault.TheVariants as folders
 use Rattle.gb_folder.proofs.Leaving.{nothing_touched, torn_write}
+use Rattle.gb_folder.proofs.Said.{if_wrote, unwritten, written}
 use Rattle.gb_folder.proofs.faulty.FaultyFolder.tear.Goals as goal
 
 pub returns-in-StopTorn-clause-torn : goal.returns-in-StopTorn-clause-torn
@@ -9,11 +11,14 @@ returns-in-StopTorn-clause-torn g c faithful next =
     let old = g.F.Folder.device.contents c.args.self.now.inner in
     let place = c.args.place.now in
     let left = g.F.Folder.device.may_leave c.args.self.now.inner place (file_at old.files place) in
-    torn_write c.args.self.now.plan.mode c.in-StopTorn.bytes (g.F.Folder.device.may_leave c.args.self.now.inner) old (g.F.Folder.device.contents c.write.new.self) place next c.write.result
+    let new = g.F.Folder.device.contents c.write.new.self in
+    let given = c.as_slice.result.now in
+    let exact = c.write.ensures.exact faithful in
+    torn_write c.args.self.now.plan.mode c.in-StopTorn.bytes (g.F.Folder.device.may_leave c.args.self.now.inner) old new place next c.write.result
     (g.met.F.Folder.sound c.args.self.now.inner) c.in-StopTorn.is
-    (subst (λ (bytes : List ℕ). OnOk c.write.result (g.F.Folder.device.contents c.write.new.self ≡ record old { files = with_file old.files place bytes })) c.as_slice.ensures.value (c.write.ensures.written faithful))
-    (c.write.ensures.same faithful)
-    (λ is. let found = c.write.ensures.torn faithful is in (found.0, subst (λ (bytes : List ℕ). left (Some bytes) found.0) c.as_slice.ensures.value found.1, found.2))
+    (subst (λ (bytes : List ℕ). OnOk c.write.result (new ≡ record old { files = with_file old.files place bytes })) c.as_slice.ensures.value (written (g.F.Folder.device.may_leave c.args.self.now.inner) old place new given _ c.write.result exact))
+    (unwritten (g.F.Folder.device.may_leave c.args.self.now.inner) old place new given _ c.write.result exact)
+    (λ is. let found = if_wrote (g.F.Folder.device.may_leave c.args.self.now.inner) old place new given _ c.write.result exact folders.Device is in (found.0, subst (λ (bytes : List ℕ). left (Some bytes) found.0) c.as_slice.ensures.value found.1, found.2))
 
 pub returns-then-self-clause-torn : goal.returns-then-self-clause-torn
 returns-then-self-clause-torn g c faithful next =

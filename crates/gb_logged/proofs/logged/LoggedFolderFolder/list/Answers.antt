@@ -1,18 +1,30 @@
-use Rattle.std.proofs.Common.{refl, inl, inr}
-use Rattle.std.specs.Prelude.{Err}
-use Rattle.gb_folder.specs.Calls.{Lists, answered}
-use Rattle.gb_folder.specs.declared.folder.FolderFault.TheVariants.{OutOfMemory}
+use Rattle.std.proofs.Common.{refl, rules, inl, inr}
+use Rattle.gb_folder.specs.Call.{Lists, answered}
 use Rattle.gb_folder.proofs.Asked.{one_call}
 use Rattle.gb_logged.proofs.logged.LoggedFolderFolder.list.Goals as goal
 
-pub returns-in_err-keep_list-clause-requests : goal.returns-in_err-keep_list-clause-requests
-returns-in_err-keep_list-clause-requests g c =
-    one_call (Lists c.args.root.now (Err OutOfMemory)) tt
-    c.list-answer.ensures.requests.count c.list-answer.ensures.requests.tearing c.list-answer.ensures.requests.back
-    (inr (c.in_err-keep_list.ensures.err, refl, c.list-answer.ensures.requests))
+pub returns-in_err-keep_list : goal.returns-in_err-keep_list
+returns-in_err-keep_list g c =
+    let said = c.list-answer.ensures in
+    record {
+      allowed = inr (c.in_err-keep_list.ensures.err, refl, one_call (Lists c.args.root.now (answered c.list-answer.result)) tt said);
+      well = search rules;
+      count = said.count;
+      tearing = said.tearing;
+      risen = search rules;
+      back = said.back;
+      exact = λ known. (tt, (said.exact known).1);
+    }
 
-pub returns-clause-requests : goal.returns-clause-requests
-returns-clause-requests g c =
-    one_call (Lists c.args.root.now (answered c.list-answer.result)) tt
-    c.list-answer.ensures.requests.count c.list-answer.ensures.requests.tearing c.list-answer.ensures.requests.back
-    (inl (c.in_ok-keep_list.ensures.ok, c.list-answer.ensures.call))
+pub returns : goal.returns
+returns g c =
+    let said = c.list-answer.ensures in
+    record {
+      allowed = inl (c.in_ok-keep_list.ensures.ok, said.allowed);
+      well = said.well;
+      count = said.count;
+      tearing = said.tearing;
+      risen = said.risen;
+      back = said.back;
+      exact = said.exact;
+    }

@@ -1,18 +1,30 @@
-use Rattle.std.proofs.Common.{refl, inl, inr}
-use Rattle.std.specs.Prelude.{Err}
-use Rattle.gb_folder.specs.Calls.{Reads, answered}
-use Rattle.gb_folder.specs.declared.folder.FolderFault.TheVariants.{OutOfMemory}
+use Rattle.std.proofs.Common.{refl, rules, inl, inr}
+use Rattle.gb_folder.specs.Call.{Reads, answered}
 use Rattle.gb_folder.proofs.Asked.{one_call}
 use Rattle.gb_logged.proofs.logged.LoggedFolderFolder.read.Goals as goal
 
-pub returns-in_err-keep_read-clause-requests : goal.returns-in_err-keep_read-clause-requests
-returns-in_err-keep_read-clause-requests g c =
-    one_call (Reads c.args.place.now c.args.limit (Err OutOfMemory)) tt
-    c.read-answer.ensures.requests.count c.read-answer.ensures.requests.tearing c.read-answer.ensures.requests.back
-    (inr (c.in_err-keep_read.ensures.err, refl, c.read-answer.ensures.requests))
+pub returns-in_err-keep_read : goal.returns-in_err-keep_read
+returns-in_err-keep_read g c =
+    let said = c.read-answer.ensures in
+    record {
+      allowed = inr (c.in_err-keep_read.ensures.err, refl, one_call (Reads c.args.place.now c.args.limit (answered c.read-answer.result)) tt said);
+      well = search rules;
+      count = said.count;
+      tearing = said.tearing;
+      risen = search rules;
+      back = said.back;
+      exact = λ known. (tt, (said.exact known).1);
+    }
 
-pub returns-clause-requests : goal.returns-clause-requests
-returns-clause-requests g c =
-    one_call (Reads c.args.place.now c.args.limit (answered c.read-answer.result)) tt
-    c.read-answer.ensures.requests.count c.read-answer.ensures.requests.tearing c.read-answer.ensures.requests.back
-    (inl (c.in_ok-keep_read.ensures.ok, c.read-answer.ensures.call))
+pub returns : goal.returns
+returns g c =
+    let said = c.read-answer.ensures in
+    record {
+      allowed = inl (c.in_ok-keep_read.ensures.ok, said.allowed);
+      well = said.well;
+      count = said.count;
+      tearing = said.tearing;
+      risen = said.risen;
+      back = said.back;
+      exact = said.exact;
+    }

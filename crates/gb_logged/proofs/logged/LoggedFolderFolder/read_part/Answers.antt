@@ -1,18 +1,30 @@
-use Rattle.std.proofs.Common.{refl, inl, inr}
-use Rattle.std.specs.Prelude.{Err}
-use Rattle.gb_folder.specs.Calls.{ReadsPart, answered}
-use Rattle.gb_folder.specs.declared.folder.FolderFault.TheVariants.{OutOfMemory}
+use Rattle.std.proofs.Common.{refl, rules, inl, inr}
+use Rattle.gb_folder.specs.Call.{ReadsPart, answered}
 use Rattle.gb_folder.proofs.Asked.{one_call}
 use Rattle.gb_logged.proofs.logged.LoggedFolderFolder.read_part.Goals as goal
 
-pub returns-in_err-keep_read_part-clause-requests : goal.returns-in_err-keep_read_part-clause-requests
-returns-in_err-keep_read_part-clause-requests g c =
-    one_call (ReadsPart c.args.place.now c.args.at c.args.len (Err OutOfMemory)) tt
-    c.read_part-answer.ensures.requests.count c.read_part-answer.ensures.requests.tearing c.read_part-answer.ensures.requests.back
-    (inr (c.in_err-keep_read_part.ensures.err, refl, c.read_part-answer.ensures.requests))
+pub returns-in_err-keep_read_part : goal.returns-in_err-keep_read_part
+returns-in_err-keep_read_part g c =
+    let said = c.read_part-answer.ensures in
+    record {
+      allowed = inr (c.in_err-keep_read_part.ensures.err, refl, one_call (ReadsPart c.args.place.now c.args.at c.args.len (answered c.read_part-answer.result)) tt said);
+      well = search rules;
+      count = said.count;
+      tearing = said.tearing;
+      risen = search rules;
+      back = said.back;
+      exact = λ known. (tt, (said.exact known).1);
+    }
 
-pub returns-clause-requests : goal.returns-clause-requests
-returns-clause-requests g c =
-    one_call (ReadsPart c.args.place.now c.args.at c.args.len (answered c.read_part-answer.result)) tt
-    c.read_part-answer.ensures.requests.count c.read_part-answer.ensures.requests.tearing c.read_part-answer.ensures.requests.back
-    (inl (c.in_ok-keep_read_part.ensures.ok, c.read_part-answer.ensures.call))
+pub returns : goal.returns
+returns g c =
+    let said = c.read_part-answer.ensures in
+    record {
+      allowed = inl (c.in_ok-keep_read_part.ensures.ok, said.allowed);
+      well = said.well;
+      count = said.count;
+      tearing = said.tearing;
+      risen = said.risen;
+      back = said.back;
+      exact = said.exact;
+    }
