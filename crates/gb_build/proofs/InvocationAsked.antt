@@ -2,8 +2,12 @@
 use Rattle.std.specs.Prelude.{ℕ, ◌≡◌, List, Result, Ok, Err, OnOk}
 use Rattle.std.proofs.Common.{subst, sym}
 use Rattle.gb_declare.specs.Registered.{registry_said}
-use Rattle.gb_folder.specs.Calls.{Requests, no_change, Device}
-use Rattle.gb_folder.proofs.Asked.{requests_then}
+use Rattle.gb_folder.specs.Calls.{Call, Device, Requests, changes_at, no_change, none}
+use Rattle.gb_folder.specs.Device.{Leads}
+use Rattle.gb_folder.proofs.Asked.{requests_reading, requests_then}
+use Rattle.gb_folder.proofs.Leading.{calls_in}
+use Rattle.gb_exec.specs.Building.{is_of_executions}
+use Rattle.gb_exec.proofs.Asking.{executions_places}
 use Rattle.gb_build.specs.Asking.{AreBuildable}
 use Rattle.gb_build.specs.Found.{IsDeclared}
 use Rattle.gb_build.specs.RequestAsked.{BuildRequests}
@@ -38,3 +42,15 @@ module _ {F M N Z S A : Type 0} (device : Device F) (tables : Tables M N Z S A) 
     by = requests.0;
     plan = requests.1;
   }
+
+  -- the list of all of them
+  pub invocation_calls : (result : Result Report Fault) (old new : F) → InvocationRequests device tables invocation result old new → (calls : List Call) × Leads device old calls new
+  invocation_calls (Err fault) old new requests = let found = calls_in device no_change old (requests.calls none) in (found.0, found.1)
+  invocation_calls (Ok report) old new builds =
+      let plan = builds.plan in
+      let places = is_of_executions builds.by.plan in
+      let changes : Requests device (changes_at places) plan.begun new =
+      executions_places device tables.shapes tables.kinds invocation.options builds.by.plan plan.records report.tasks plan.begun plan.begun new plan.executions in
+      let all : Requests device (changes_at places) old new = requests_then (requests_reading builds.first) (requests_then (requests_reading plan.first) changes) in
+      let found = calls_in device (changes_at places) old (all.calls none) in
+      (found.0, found.1)

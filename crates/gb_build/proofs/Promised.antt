@@ -18,7 +18,7 @@ use Rattle.gb_report.specs.declared.report.Report.{Report}
 use Rattle.gb_build.specs.Invoking.{IsInvocation, KeepsPromise}
 use Rattle.gb_build.specs.Leading.{IsTransition}
 use Rattle.gb_build.specs.Registering.{registers_in, setting_of}
-use Rattle.gb_build.proofs.InvocationAsked.{refusal_requests}
+use Rattle.gb_build.proofs.InvocationAsked.{invocation_calls, refusal_requests}
 use Rattle.gb_build.proofs.Keeping.{of_fault, refusal_keeps}
 use Rattle.gb_build.proofs.Leading.{led_holds}
 use Rattle.gb_build.proofs.Passing.{refused_leads}
@@ -60,13 +60,16 @@ module _ {F M N Z S A : Type 0} (device : Device F) (tables : Tables M N Z S A) 
   -- a refusal
   pub refusal_does : (fault : Fault) → result ≡ Err fault → Requests device no_change old new → HasFailed (times_blamed (answer_of result)) (device.failures old) (device.failures new)
       → ((place : Place) → fault ≡ faults.Device place → IsTrue (is_read_first invocation.options place)) → IsInvocation device tables invocation result old new
-  refusal_does fault is requests blamed places = record {
-    requests = refusal_requests device tables invocation result fault old new is requests;
-    dry_run = subst (λ (r : Result Report Fault). IfOk r (λ report. report.dry_run ≡ invocation.options.dry_run)) (sym is) tt;
-    outlined = subst (λ (r : Result Report Fault). IfOk r (IsOutlined invocation)) (sym is) tt;
-    places = of_fault (λ (f : Fault). (place : Place) → f ≡ faults.Device place → IsTrue (is_read_first invocation.options place)) result fault is places;
-    blame = blamed;
-    count = requests.count;
-    tearing = requests.tearing;
-    back = requests.back;
-  }
+  refusal_does fault is requests blamed places =
+      let asked = refusal_requests device tables invocation result fault old new is requests in
+      record {
+        requests = asked;
+        calls = invocation_calls device tables invocation result old new asked;
+        dry_run = subst (λ (r : Result Report Fault). IfOk r (λ report. report.dry_run ≡ invocation.options.dry_run)) (sym is) tt;
+        outlined = subst (λ (r : Result Report Fault). IfOk r (IsOutlined invocation)) (sym is) tt;
+        places = of_fault (λ (f : Fault). (place : Place) → f ≡ faults.Device place → IsTrue (is_read_first invocation.options place)) result fault is places;
+        blame = blamed;
+        count = requests.count;
+        tearing = requests.tearing;
+        back = requests.back;
+      }

@@ -1,10 +1,11 @@
 -- The calls that events make, over any folder.
 use Rattle.std.specs.Prelude.{◌≡◌, ◌⊎◌, List, [], ◌∷◌, Result, Ok}
 use Rattle.gb_folder.specs.Calls.{Requests, Call, Removes, Writes, no_change, takes_at, Device}
+use Rattle.gb_folder.specs.Device.{IsCalled}
 use Rattle.gb_folder.specs.Files.{is_own}
 use Rattle.gb_folder.specs.Limits.{max_file}
-use Rattle.gb_folder.specs.declared.folder.FolderFault.{FolderFault}
-use Rattle.gb_meaning.specs.declared.events.Answer.{Answer}
+use Rattle.gb_folder.specs.Semantics.{Answer}
+use Rattle.gb_meaning.specs.declared.events.Answer.{Answer as Reply}
 use Rattle.gb_meaning.specs.declared.events.Answer.TheVariants as answers
 use Rattle.gb_meaning.specs.declared.events.Event.{Event}
 use Rattle.gb_meaning.specs.declared.events.Event.TheVariants as events
@@ -12,20 +13,17 @@ use Rattle.gb_registry.specs.Tables.{Tables}
 use Rattle.gb_build.specs.InvocationAsked.{InvocationRequests}
 
 -- no call, or one call and no other
-abbrev pub RequestsOnce : {F : Type 0} → (F → Call → F → Type 0) → (Result (Unit {0}) FolderFault → Call)
-    → F → F
-    → Type 0
-RequestsOnce allowed call old new =
-    (new ≡ old) ⊎ ((answer : Result (Unit {0}) FolderFault) × allowed old (call answer) new)
+abbrev pub RequestsOnce : {F : Type 0} → Device F → (Answer → Call) → F → F → Type 0
+RequestsOnce device call old new = (new ≡ old) ⊎ ((answer : Answer) × IsCalled device old (call answer) new)
 
 -- An edit makes at most one call, at its own place; a loss removes only in `.gb`; and an invocation makes the
 -- calls that its answer permits.
 abbrev pub EventRequests : {F M N Z S A : Type 0} → Device F
-    → Tables M N Z S A → Event → Answer → F → F → Type 0
+    → Tables M N Z S A → Event → Reply → F → F → Type 0
 EventRequests device tables (events.Put place bytes) answer old new =
-    RequestsOnce device.allowed (Writes place bytes max_file) old new
+    RequestsOnce device (Writes place bytes max_file) old new
 EventRequests device tables (events.Remove place) answer old new =
-    RequestsOnce device.allowed (Removes place) old new
+    RequestsOnce device (Removes place) old new
 EventRequests device tables events.Lost answer old new =
     Requests device (takes_at is_own) old new
 EventRequests device tables (events.Invoke invocation) (answers.Built report)
@@ -36,7 +34,7 @@ EventRequests device tables (events.Invoke invocation) answer old new =
 
 -- one event after another
 abbrev pub EventsRequest : {F M N Z S A : Type 0} → Device F
-    → Tables M N Z S A → List Event → List Answer → F → F → Type 0
+    → Tables M N Z S A → List Event → List Reply → F → F → Type 0
 EventsRequest device tables (event ∷ rest) (answer ∷ others) old new =
     (mid : _) × EventRequests device tables event answer old mid
     × EventsRequest device tables rest others mid new

@@ -1,5 +1,7 @@
 -- What one invocation does: over any folder, and where the contents of the folder are known.
-use Rattle.std.specs.Prelude.{◌≡◌, ◌≤◌, ◌∷◌, [], true, Result, IfErr, IfOk, IsTrue, OnErr}
+use Rattle.std.specs.Prelude.{◌≡◌, ◌≤◌, List, ◌∷◌, [], true, Result, IfErr, IfOk, IsTrue, OnErr}
+use Rattle.gb_folder.specs.Calls.{Call, Device}
+use Rattle.gb_folder.specs.Device.{Leads}
 use Rattle.gb_folder.specs.Files.{Place, SameTearing, Tearing}
 use Rattle.gb_meaning.specs.Edits.{Shown}
 use Rattle.gb_meaning.specs.Events.{IsNotBuilt, is_read_first}
@@ -17,7 +19,6 @@ use Rattle.gb_report.specs.declared.report.Report.{Report}
 use Rattle.gb_build.specs.InvocationAsked.{InvocationRequests}
 use Rattle.gb_build.specs.Leading.{IsTransition}
 use Rattle.gb_build.specs.Registering.{registers_in, setting_of}
-use Rattle.gb_folder.specs.Calls.{Device}
 
 -- Over any folder: the calls of an invocation, and what its answer may be.
 pub record IsInvocation {F M N Z S A : Type 0} (device : Device F) (tables : Tables M N Z S A)
@@ -26,6 +27,8 @@ pub record IsInvocation {F M N Z S A : Type 0} (device : Device F) (tables : Tab
   -- an output of a task of this plan or at the record of one, and the text of such a record is that of a run
   -- of the task. A refused build and a dry run request none.
   pub requests : InvocationRequests device tables invocation answer old new
+  -- These are a list of calls, with their answers, which lead from the folder before to the folder after.
+  pub calls : (calls : List Call) × Leads device old calls new
   pub dry_run : IfOk answer (λ report. report.dry_run ≡ invocation.options.dry_run)
   -- For some registry, the report is that of the plan of the request. Which of its tasks start, and which
   -- outcomes each may have, is as `Outlines` says.

@@ -27,7 +27,7 @@ pub fn put<F: Folder>(folder: &mut F, place: &Place, bytes: &Bytes) -> Result<()
     ensures count { F.device.failures folder.old ≤ F.device.failures folder.new }
     ensures back { F.device.faithful folder.new → F.device.faithful folder.old }
     ensures blame { Blames result (F.device.failures folder.old) (F.device.failures folder.new) }
-    ensures requests { RequestsOnce F.device.allowed (Writes place.now bytes.now max_file) folder.old
+    ensures requests { RequestsOnce F.device (Writes place.now bytes.now max_file) folder.old
         folder.new }
     ensures tearing { SameTearing (F.device.may_leave folder.old) (F.device.may_leave folder.new) }
     ensures step { F.device.faithful folder.new → PutStep (F.device.may_leave folder.old) place.now bytes.now
@@ -51,7 +51,7 @@ pub fn remove<F: Folder>(folder: &mut F, place: &Place) -> Result<(), Fault>
     ensures count { F.device.failures folder.old ≤ F.device.failures folder.new }
     ensures back { F.device.faithful folder.new → F.device.faithful folder.old }
     ensures blame { Blames result (F.device.failures folder.old) (F.device.failures folder.new) }
-    ensures requests { RequestsOnce F.device.allowed (Removes place.now) folder.old folder.new }
+    ensures requests { RequestsOnce F.device (Removes place.now) folder.old folder.new }
     ensures tearing { SameTearing (F.device.may_leave folder.old) (F.device.may_leave folder.new) }
     ensures step { F.device.faithful folder.new → RemoveStep (F.device.may_leave folder.old) place.now
         (record { contents = F.device.contents folder.old; failures = F.device.failures folder.old })

@@ -1,7 +1,13 @@
 //! Facts that follow from the definitions alone.
+ghost use Rattle.std.specs.Prelude.{List};
+ghost use Rattle.gb_folder.specs.Calls.{Call};
+ghost use Rattle.gb_folder.specs.Device.{Leads};
 ghost use Rattle.gb_meaning.specs.Kinds.{Kinds};
 ghost use Rattle.gb_meaning.specs.Pinned.{HaveOnePlan};
+ghost use Rattle.gb_meaning.specs.declared.events.Answer.{Answer};
+ghost use Rattle.gb_meaning.specs.declared.events.Event.{Event};
 ghost use Rattle.gb_registry.specs.Tables.{Tables};
+ghost use Rattle.gb_build.specs.EventAsked.{EventsRequest};
 ghost use Rattle.gb_build.specs.Laws.{FoldersSayOneThing, OwnFilesSayNothing};
 ghost use Rattle.gb_build.specs.Registering.{setting_of};
 
@@ -24,4 +30,13 @@ pub fn own_files_say_nothing<A: Actions, T: Transforms>()
 pub fn scripts_give_one_plan<A: Actions, T: Transforms, F: Folder>()
     ensures { (tables : Tables T.Map T.FlatMap T.Zip T.Test A.Stored) (kinds : Kinds) (folder : F)
         → HaveOnePlan (setting_of tables kinds (F.device.may_leave folder)) }
+{}
+
+/// The calls of events that are taken one after another are a list of calls, with their answers,
+/// which lead from the folder before them to the folder after them. (Of one invocation it is a field
+/// of `IsInvocation`.)
+pub fn events_are_calls<A: Actions, T: Transforms, F: Folder>()
+    ensures { (tables : Tables T.Map T.FlatMap T.Zip T.Test A.Stored) (events : List Event)
+        (answers : List Answer) (old new : F) → EventsRequest F.device tables events answers old new
+        → (calls : List Call) × Leads F.device old calls new }
 {}

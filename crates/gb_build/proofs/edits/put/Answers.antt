@@ -4,6 +4,7 @@ use Rattle.gb_folder.specs.Files.{IsTorn}
 use Rattle.gb_store.specs.Faults.{reported_at}
 use Rattle.gb_build.proofs.Editing.{put_failed}
 use Rattle.gb_folder.specs.Calls.{Writes}
+use Rattle.gb_folder.specs.Device.{IsCalled}
 use Rattle.gb_build.proofs.edits.put.Goals as goal
 
 pub returns-in-Err-clause-step : goal.returns-in-Err-clause-step
@@ -28,12 +29,12 @@ pub returns-in-Ok-clause-requests : goal.returns-in-Ok-clause-requests
 returns-in-Ok-clause-requests g c =
     inr (
       c.write.result,
-      subst (λ (bytes : List ℕ). g.F.Folder.device.allowed c.args.folder.now (Writes c.args.place.now bytes max_file c.write.result) c.write.new.self) c.as_slice.ensures c.write.ensures.called.allowed,
+      subst (λ (bytes : List ℕ). IsCalled g.F.Folder.device c.args.folder.now (Writes c.args.place.now bytes max_file c.write.result) c.write.new.self) c.as_slice.ensures c.write.ensures.called,
     )
 
 pub returns-in-Err-clause-requests : goal.returns-in-Err-clause-requests
 returns-in-Err-clause-requests g c =
     inr (
       c.write.result,
-      subst (λ (bytes : List ℕ). g.F.Folder.device.allowed c.args.folder.now (Writes c.args.place.now bytes max_file c.write.result) c.write.new.self) c.as_slice.ensures c.write.ensures.called.allowed,
+      subst (λ (bytes : List ℕ). IsCalled g.F.Folder.device c.args.folder.now (Writes c.args.place.now bytes max_file c.write.result) c.write.new.self) c.as_slice.ensures c.write.ensures.called,
     )

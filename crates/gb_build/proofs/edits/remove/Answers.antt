@@ -19,7 +19,7 @@ pub returns-then-is_own-clause-requests : goal.returns-then-is_own-clause-reques
 returns-then-is_own-clause-requests g c = inl refl
 
 pub returns-in-Ok-clause-requests : goal.returns-in-Ok-clause-requests
-returns-in-Ok-clause-requests g c = inr (c.remove.result, c.remove.ensures.called.allowed)
+returns-in-Ok-clause-requests g c = inr (c.remove.result, c.remove.ensures.called)
 
 pub returns-in-Err-clause-requests : goal.returns-in-Err-clause-requests
-returns-in-Err-clause-requests g c = inr (c.remove.result, c.remove.ensures.called.allowed)
+returns-in-Err-clause-requests g c = inr (c.remove.result, c.remove.ensures.called)

@@ -20,10 +20,11 @@ use Rattle.gb_task.proofs.Recorded.{assumed_later}
 use Rattle.gb_build.specs.Asking.{AreBuildable}
 use Rattle.gb_build.specs.Leading.{IsTransition}
 use Rattle.gb_build.specs.Refusing.{IsNotBegun}
+use Rattle.gb_build.specs.InvocationAsked.{InvocationRequests}
 use Rattle.gb_build.specs.RequestAsked.{BuildRequests}
 use Rattle.gb_build.specs.Registering.{registers_in}
 use Rattle.gb_build.proofs.Blamed.{failed_since, memory_blames_none, reading_fails}
-use Rattle.gb_build.proofs.InvocationAsked.{declared_requests}
+use Rattle.gb_build.proofs.InvocationAsked.{declared_requests, invocation_calls}
 use Rattle.gb_build.proofs.Keeping.{begun_before, each_fault, invoked_keeps}
 use Rattle.gb_build.proofs.Passing.{always, shows, since_read}
 use Rattle.gb_build.proofs.Promised.{promised, refusal_does, refusal_promised}
@@ -83,37 +84,42 @@ returns-in_err-configured-clause-promise g c = λ faithful.
 -- ---- The tasks were registered
 
 pub returns-clause-does : goal.returns-clause-does
-returns-clause-does g c = record {
-  requests =
-      let F = g.F.Folder in
-      let means = g.T.Transforms.meanings in
-      let meanings = g.A.Actions.meanings in
-      let source = c.in_ok-configured.configured.registry in
-      let answered = c.build_registered-answered in
-      let begun = c.read_registry.new.folder in
-      let new = answered.new.folder in
-      declared_requests F.device (tables_of means meanings c.args.tables.now) c.args.invocation.now answered.result source c.into_vec-given.result.items c.args.folder.now begun new
-      (c.into_vec-given.ensures ∙ c.in_ok-copied.ensures) c.read_registry.ensures.reads.requests c.in_ok-configured.ensures.declared
-      (subst (λ (given : handed.Tables _ _ _ _ _ _ _). OnOk answered.result (IsRegistry (registry_said (tables_of means meanings given) source) × AreBuildable meanings given.actions (registry_said (tables_of means meanings given) source)))
-      c.in_ok-configured.ensures.tables answered.ensures.buildable)
-      (subst (λ (given : handed.Tables _ _ _ _ _ _ _). BuildRequests F.device meanings given.actions (registry_said (tables_of means meanings given) source) c.args.invocation.now answered.result begun new)
-      c.in_ok-configured.ensures.tables answered.ensures.requests);
-  dry_run = c.build_registered-answered.ensures.dry_run;
-  outlined = c.build_registered-answered.ensures.outlined;
-  places =
-      each_fault (λ (fault : Fault). (place : List ℕ) → fault ≡ faults.Device place → IsTrue (is_own place && not c.args.invocation.now.options.dry_run))
-      (λ (fault : Fault). (place : List ℕ) → fault ≡ faults.Device place → IsTrue (is_read_first c.args.invocation.now.options place))
-      (λ fault at place is. own_is_read_first c.args.invocation.now place (at place is))
-      c.build_registered-answered.result c.build_registered-answered.ensures.places;
-  blame =
-      let F = g.F.Folder in
-      failed_since (times_blamed (answer_of c.build_registered-answered.result)) (F.device.failures c.args.folder.now) (F.device.failures c.read_registry.new.folder) (F.device.failures c.build_registered-answered.new.folder)
-      c.read_registry.ensures.reads.requests.count c.build_registered-answered.ensures.device;
-  count = omega (arith, c.read_registry.ensures.reads.requests.count, c.build_registered-answered.ensures.count);
-  back = λ known. c.read_registry.ensures.reads.requests.back (c.build_registered-answered.ensures.back known);
-  tearing = SameTearing-chain (g.F.Folder.device.may_leave c.args.folder.now) (g.F.Folder.device.may_leave c.read_registry.new.folder) (g.F.Folder.device.may_leave c.build_registered-answered.new.folder)
-      c.read_registry.ensures.reads.requests.tearing c.build_registered-answered.ensures.tearing;
-}
+returns-clause-does g c =
+    let F = g.F.Folder in
+    let means = g.T.Transforms.meanings in
+    let meanings = g.A.Actions.meanings in
+    let tables = tables_of means meanings c.args.tables.now in
+    let source = c.in_ok-configured.configured.registry in
+    let answered = c.build_registered-answered in
+    let old = c.args.folder.now in
+    let begun = c.read_registry.new.folder in
+    let new = answered.new.folder in
+    let requests : InvocationRequests F.device tables c.args.invocation.now answered.result old new =
+    declared_requests F.device tables c.args.invocation.now answered.result source c.into_vec-given.result.items old begun new
+    (c.into_vec-given.ensures ∙ c.in_ok-copied.ensures) c.read_registry.ensures.reads.requests c.in_ok-configured.ensures.declared
+    (subst (λ (given : handed.Tables _ _ _ _ _ _ _). OnOk answered.result (IsRegistry (registry_said (tables_of means meanings given) source) × AreBuildable meanings given.actions (registry_said (tables_of means meanings given) source)))
+    c.in_ok-configured.ensures.tables answered.ensures.buildable)
+    (subst (λ (given : handed.Tables _ _ _ _ _ _ _). BuildRequests F.device meanings given.actions (registry_said (tables_of means meanings given) source) c.args.invocation.now answered.result begun new)
+    c.in_ok-configured.ensures.tables answered.ensures.requests) in
+    record {
+      requests = requests;
+      calls = invocation_calls F.device tables c.args.invocation.now answered.result old new requests;
+      dry_run = c.build_registered-answered.ensures.dry_run;
+      outlined = c.build_registered-answered.ensures.outlined;
+      places =
+          each_fault (λ (fault : Fault). (place : List ℕ) → fault ≡ faults.Device place → IsTrue (is_own place && not c.args.invocation.now.options.dry_run))
+          (λ (fault : Fault). (place : List ℕ) → fault ≡ faults.Device place → IsTrue (is_read_first c.args.invocation.now.options place))
+          (λ fault at place is. own_is_read_first c.args.invocation.now place (at place is))
+          c.build_registered-answered.result c.build_registered-answered.ensures.places;
+      blame =
+          let F = g.F.Folder in
+          failed_since (times_blamed (answer_of c.build_registered-answered.result)) (F.device.failures c.args.folder.now) (F.device.failures c.read_registry.new.folder) (F.device.failures c.build_registered-answered.new.folder)
+          c.read_registry.ensures.reads.requests.count c.build_registered-answered.ensures.device;
+      count = omega (arith, c.read_registry.ensures.reads.requests.count, c.build_registered-answered.ensures.count);
+      back = λ known. c.read_registry.ensures.reads.requests.back (c.build_registered-answered.ensures.back known);
+      tearing = SameTearing-chain (g.F.Folder.device.may_leave c.args.folder.now) (g.F.Folder.device.may_leave c.read_registry.new.folder) (g.F.Folder.device.may_leave c.build_registered-answered.new.folder)
+          c.read_registry.ensures.reads.requests.tearing c.build_registered-answered.ensures.tearing;
+    }
 
 pub returns-clause-promise : goal.returns-clause-promise
 returns-clause-promise g c = λ faithful.
