@@ -1,6 +1,5 @@
 use Rattle.std.proofs.Common.{◌≡◌, true, true≢false, Ok, Err, None, OnOk, IfErr, ap, subst, sym, ◌∙◌}
 use Rattle.gb_folder.specs.Each.{Ended}
-use Rattle.gb_folder.proofs.Exact.{removed}
 use Rattle.gb_folder.specs.Files.{file_at, is_blocked, without}
 use Rattle.gb_history.specs.Places.{record_place}
 use Rattle.gb_records.specs.Called.{deletion_ending}
@@ -41,10 +40,8 @@ returns g c =
     let at : c.in_ok-place.place ≡ record_place path = c.in_ok-place.ensures.place in
     let sound = g.met.F.Folder.sound c.args.folder.now in
     let allowed = c.remove.ensures in
-    let said = c.remove.ensures in
-    let called = c.remove.ensures.called in
     record {
-      calls = deletion_called F.device path c.args.was_read c.in_ok-place.place c.args.folder.now c.remove.new.self c.remove.result c.unless_missing.result c.if-not-was_read.false at called
+      calls = deletion_called F.device path c.args.was_read c.in_ok-place.place c.args.folder.now c.remove.new.self c.remove.result c.unless_missing.result c.if-not-was_read.false at c.remove.ensures.called
           (c.unless_missing.ensures ∙ ap deletion_ending (sym c.in-Err.is));
       requests = taken_as c.in_ok-place.place (record_place path) at allowed.requests;
       unread = λ e. absurd (true≢false (sym c.if-not-was_read.false ∙ e));
@@ -72,9 +69,7 @@ returns-in-Ok-clause-requests g c = taken_as c.in_ok-place.place (record_place c
 pub returns-in-Ok-clause-calls : goal.returns-in-Ok-clause-calls
 returns-in-Ok-clause-calls g c =
     let F = g.F.Folder in
-    let said = c.remove.ensures in
-    let called = c.remove.ensures.called in
-    deletion_called F.device c.args.path.now c.args.was_read c.in_ok-place.place c.args.folder.now c.remove.new.self c.remove.result (Ok tt) c.if-not-was_read.false c.in_ok-place.ensures.place called
+    deletion_called F.device c.args.path.now c.args.was_read c.in_ok-place.place c.args.folder.now c.remove.new.self c.remove.result (Ok tt) c.if-not-was_read.false c.in_ok-place.ensures.place c.remove.ensures.called
     (ap deletion_ending (sym c.in-Ok.is))
 
 pub returns-then-not-was_read-clause-calls : goal.returns-then-not-was_read-clause-calls

@@ -71,12 +71,10 @@ returns-in-Ok-clause-calls g c =
     let new = c.write.new.self in
     let place = c.in_ok-place.place in
     let bytes = c.as_slice.result.now in
-    let said = c.write.ensures in
     let path = c.args.path.now in
     let text = record_text path c.args.run.now in
-    let called = c.write.ensures.called in
     storing_called F.device path c.args.run.now place bytes old new c.write.result (Ok tt)
-    c.in_ok-place.ensures.place (c.as_slice.ensures.value ∙ c.in_ok-text.ensures.text) called (ap storing_ending (sym c.in-Ok.is))
+    c.in_ok-place.ensures.place (c.as_slice.ensures.value ∙ c.in_ok-text.ensures.text) c.write.ensures.called (ap storing_ending (sym c.in-Ok.is))
     (text_of path c.args.run.now c.in_ok-text.text.items c.in_ok-text.ensures.text c.in_ok-text.ensures.utf8 c.in_ok-text.ensures.held (omega arith))
 
 pub returns-clause-calls : goal.returns-clause-calls
@@ -86,12 +84,10 @@ returns-clause-calls g c =
     let new = c.write.new.self in
     let place = c.in_ok-place.place in
     let bytes = c.as_slice.result.now in
-    let said = c.write.ensures in
     let path = c.args.path.now in
     let text = record_text path c.args.run.now in
-    let called = c.write.ensures.called in
     storing_called F.device path c.args.run.now place bytes old new c.write.result (Err c.unwritten_by.result)
-    c.in_ok-place.ensures.place (c.as_slice.ensures.value ∙ c.in_ok-text.ensures.text) called (ap Err c.unwritten_by.ensures ∙ ap storing_ending (sym c.in-Err.is))
+    c.in_ok-place.ensures.place (c.as_slice.ensures.value ∙ c.in_ok-text.ensures.text) c.write.ensures.called (ap Err c.unwritten_by.ensures ∙ ap storing_ending (sym c.in-Err.is))
     (text_of path c.args.run.now c.in_ok-text.text.items c.in_ok-text.ensures.text c.in_ok-text.ensures.utf8 c.in_ok-text.ensures.held (omega arith))
 
 pub returns-in_err-text-clause-calls : goal.returns-in_err-text-clause-calls

@@ -6,14 +6,10 @@ pub returns-in-Ok-clause-call : goal.returns-in-Ok-clause-call
 returns-in-Ok-clause-call g c =
     let F = g.F.Folder in
     let root = c.args.place.now in
-    let said = c.list.ensures in
-    let called = c.list.ensures.called in
-    (answered c.list.result, called, listed_well root c.list.result c.in-Ok.places c.in-Ok.is)
+    (answered c.list.result, c.list.ensures.called, listed_well root c.list.result c.in-Ok.places c.in-Ok.is)
 
 pub returns-in-Err-clause-call : goal.returns-in-Err-clause-call
 returns-in-Err-clause-call g c =
     let F = g.F.Folder in
     let root = c.args.place.now in
-    let said = c.list.ensures in
-    let called = c.list.ensures.called in
-    (answered c.list.result, called, listed_badly root c.list.result c.in-Err.fault _ c.in-Err.is c.fault_at.ensures)
+    (answered c.list.result, c.list.ensures.called, listed_badly root c.list.result c.in-Err.fault _ c.in-Err.is c.fault_at.ensures)

@@ -3,7 +3,6 @@ use Rattle.std.specs.Cmp.Lexicographic.{bytes_decides}
 use Rattle.std.proofs.lemmas.Result.{on_ok_weaker, IfErr-weaker, IfErr-at_err}
 use Rattle.gb_folder.specs.declared.folder.FolderFault.{FolderFault}
 use Rattle.gb_folder.specs.declared.folder.FolderFault.TheVariants as folders
-use Rattle.gb_folder.proofs.Exact.{removed}
 use Rattle.gb_folder.specs.Files.{Contents, IsFolder, Place, file_at}
 use Rattle.gb_store.specs.Changes.{IsHindered, without_all}
 use Rattle.gb_store.specs.Faults.{reported_at}
@@ -18,9 +17,7 @@ pub returns-in-Ok-clause-call : goal.returns-in-Ok-clause-call
 returns-in-Ok-clause-call g c =
     let F = g.F.Folder in
     let place = c.args.place.now in
-    let said = c.remove.ensures in
-    let called = c.remove.ensures.called in
-    inr (c.remove.result, called, ap (removal_ending place) (sym c.in-Ok.is))
+    inr (c.remove.result, c.remove.ensures.called, ap (removal_ending place) (sym c.in-Ok.is))
 
 pub returns-in-Ok-clause-changes : goal.returns-in-Ok-clause-changes
 returns-in-Ok-clause-changes g c = λ faithful test holds. changes_without test _ _ c.args.place.now (c.in-Ok.ensures.removed faithful) holds
@@ -48,12 +45,10 @@ returns-in-Err g c =
     let sound = g.met.F.Folder.sound c.args.folder.now in
     let allowed = c.remove.ensures in
     let as_reported : reported_at c.in_ok-at.at fault ≡ reported_at place fault = ap (λ p. reported_at p fault) c.in_ok-at.ensures in
-    let said = c.remove.ensures in
-    let called = c.remove.ensures.called in
     record {
       call = inr (
         c.remove.result,
-        called,
+        c.remove.ensures.called,
         c.unless_absent.ensures ∙ ap (λ p. unless_absent p fault) c.in_ok-at.ensures ∙ ap (removal_ending place) (sym c.in-Err.is),
       );
       requests = allowed.requests;
