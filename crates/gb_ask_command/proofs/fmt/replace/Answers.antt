@@ -5,5 +5,5 @@ use Rattle.gb_ask_command.proofs.fmt.replace.Goals as goal
 
 pub returns : goal.returns
 returns g c =
-    write_done g.F.Folder.device c.args.place.now c.args.folder.now c.write-answer.new.folder c.in_ok-at.at c.as_bytes.result.now (string_bytes c.args.out.now) c.write-answer.result (string_in c.named_after.result)
+    write_done g.F.Folder.device c.args.place.now c.args.folder.now c.write-answer.new.self c.in_ok-at.at c.as_bytes.result.now (string_bytes c.args.out.now) c.write-answer.result (string_in c.named_after.result)
     c.in_ok-at.ensures c.as_bytes.ensures.value c.write-answer.ensures c.named_after.ensures

@@ -17,7 +17,7 @@ returns-in-Err-clause-step g c = λ faithful.
     put_failed may_leave place c.args.bytes.now _ _ _ _ fault c.fault_of.result (sym c.is_own.ensures ∙ c.if-is_own.false) (c.fault_of.ensures ∙ ap (λ p. reported_at p fault) c.in_ok-at.ensures)
     (λ e. w.risen (c.in-Err.is ∙ ap Err e)) (λ other. c.in-Err.ensures.same faithful other) (λ e. w.blocked faithful (c.in-Err.is ∙ ap Err e))
     (λ e. subst (λ (bytes : List ℕ). max_file < length bytes) c.as_slice.ensures (w.large (c.in-Err.is ∙ ap Err e))) (λ e. w.not_missing (c.in-Err.is ∙ ap Err e)) (λ e. w.not_named (c.in-Err.is ∙ ap Err e))
-    (λ e. subst (λ (bytes : List ℕ). IsTorn may_leave place (Some bytes) (contents c.args.folder.now) (contents c.write.new.self)) c.as_slice.ensures (w.torn faithful (c.in-Err.is ∙ ap Err e)))
+    (λ e. subst (λ (bytes : List ℕ). IsTorn may_leave place (Some bytes) (contents c.args.folder.now) (contents c.write.new.folder)) c.as_slice.ensures (w.torn faithful (c.in-Err.is ∙ ap Err e)))
 
 pub returns-in_err-at-clause-requests : goal.returns-in_err-at-clause-requests
 returns-in_err-at-clause-requests g c = inl refl
@@ -29,12 +29,12 @@ pub returns-in-Ok-clause-requests : goal.returns-in-Ok-clause-requests
 returns-in-Ok-clause-requests g c =
     inr (
       c.write.result,
-      subst (λ (bytes : List ℕ). IsCalled g.F.Folder.device c.args.folder.now (Writes c.args.place.now bytes max_file c.write.result) c.write.new.self) c.as_slice.ensures c.write.ensures.called,
+      subst (λ (bytes : List ℕ). IsCalled g.F.Folder.device c.args.folder.now (Writes c.args.place.now bytes max_file c.write.result) c.write.new.folder) c.as_slice.ensures c.write.ensures.called,
     )
 
 pub returns-in-Err-clause-requests : goal.returns-in-Err-clause-requests
 returns-in-Err-clause-requests g c =
     inr (
       c.write.result,
-      subst (λ (bytes : List ℕ). IsCalled g.F.Folder.device c.args.folder.now (Writes c.args.place.now bytes max_file c.write.result) c.write.new.self) c.as_slice.ensures c.write.ensures.called,
+      subst (λ (bytes : List ℕ). IsCalled g.F.Folder.device c.args.folder.now (Writes c.args.place.now bytes max_file c.write.result) c.write.new.folder) c.as_slice.ensures c.write.ensures.called,
     )

@@ -20,6 +20,6 @@ pub returns-in-Ok-clause-parsed : goal.returns-in-Ok-clause-parsed
 returns-in-Ok-clause-parsed g c =
     let F = g.F.Folder in
     let old = c.args.folder.now in
-    let new = c.read.new.self in
+    let new = c.read.new.folder in
     parsed_here F.device Says old new c.args.place _ c.as_slice.result.now _ c.script_in.result
     (subst (λ (bytes : List ℕ). F.device.allowed old (Reads c.args.place _ (Ok bytes)) new) (sym c.as_slice.ensures.value) c.in-Ok.ensures.called.allowed) c.script_in.ensures

@@ -27,21 +27,21 @@ returns-in-Ok-clause-out g c = λ faithful.
 pub returns-in-Ok-clause-exists : goal.returns-in-Ok-clause-exists
 returns-in-Ok-clause-exists g c = λ faithful observed memory existed none.
     let old = g.F.Folder.device.contents c.args.folder.now in
-    gone c.args.path.now old (g.F.Folder.device.contents c.remove.new.self) memory c.in_ok-place.ensures.path
+    gone c.args.path.now old (g.F.Folder.device.contents c.remove.new.folder) memory c.in_ok-place.ensures.path
     (c.in-Ok.ensures.removed faithful ∙ ap (λ p. record old { files = without old.files p }) c.in_ok-place.ensures.place) existed
 
 pub returns : goal.returns
 returns g c =
     let F = g.F.Folder in
     let old = F.device.contents c.args.folder.now in
-    let new = F.device.contents c.remove.new.self in
+    let new = F.device.contents c.remove.new.folder in
     let path = c.args.path.now in
     let fault = c.in-Err.fault in
     let at : c.in_ok-place.place ≡ record_place path = c.in_ok-place.ensures.place in
     let sound = g.met.F.Folder.sound c.args.folder.now in
     let allowed = c.remove.ensures in
     record {
-      calls = deletion_called F.device path c.args.was_read c.in_ok-place.place c.args.folder.now c.remove.new.self c.remove.result c.unless_missing.result c.if-not-was_read.false at c.remove.ensures.called
+      calls = deletion_called F.device path c.args.was_read c.in_ok-place.place c.args.folder.now c.remove.new.folder c.remove.result c.unless_missing.result c.if-not-was_read.false at c.remove.ensures.called
           (c.unless_missing.ensures ∙ ap deletion_ending (sym c.in-Err.is));
       requests = taken_as c.in_ok-place.place (record_place path) at allowed.requests;
       unread = λ e. absurd (true≢false (sym c.if-not-was_read.false ∙ e));
@@ -51,7 +51,7 @@ returns g c =
           (out_of path old new fault sound (c.in-Err.ensures.same faithful)
           (λ e. subst (λ p. file_at old.files p ≡ None) at (allowed.missing faithful (c.in-Err.is ∙ ap Err e)))));
       err = λ faithful.
-          subst (λ r. IfErr r (λ reported. ComesToNothing (F.device.may_leave c.args.folder.now) path None (F.device.failures c.args.folder.now) (F.device.failures c.remove.new.self) old reported new)) (sym c.unless_missing.ensures)
+          subst (λ r. IfErr r (λ reported. ComesToNothing (F.device.may_leave c.args.folder.now) path None (F.device.failures c.args.folder.now) (F.device.failures c.remove.new.folder) old reported new)) (sym c.unless_missing.ensures)
           (nothing_of (F.device.may_leave c.args.folder.now) path _ _ old new fault (c.in-Err.ensures.same faithful) (λ e. allowed.risen (c.in-Err.is ∙ ap Err e))
           (λ e. subst (λ p. LeftAt (F.device.may_leave c.args.folder.now) p None old new) at (allowed.torn faithful (c.in-Err.is ∙ ap Err e)))
           (λ e. subst (λ p. is_blocked old.files p ≡ true) at (allowed.blocked faithful (c.in-Err.is ∙ ap Err e)))
@@ -69,7 +69,7 @@ returns-in-Ok-clause-requests g c = taken_as c.in_ok-place.place (record_place c
 pub returns-in-Ok-clause-calls : goal.returns-in-Ok-clause-calls
 returns-in-Ok-clause-calls g c =
     let F = g.F.Folder in
-    deletion_called F.device c.args.path.now c.args.was_read c.in_ok-place.place c.args.folder.now c.remove.new.self c.remove.result (Ok tt) c.if-not-was_read.false c.in_ok-place.ensures.place c.remove.ensures.called
+    deletion_called F.device c.args.path.now c.args.was_read c.in_ok-place.place c.args.folder.now c.remove.new.folder c.remove.result (Ok tt) c.if-not-was_read.false c.in_ok-place.ensures.place c.remove.ensures.called
     (ap deletion_ending (sym c.in-Ok.is))
 
 pub returns-then-not-was_read-clause-calls : goal.returns-then-not-was_read-clause-calls

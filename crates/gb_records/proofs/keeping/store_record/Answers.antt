@@ -34,7 +34,7 @@ returns-in-Ok-clause-exists g c = λ faithful observed memory entry existed of.
     let long : length c.in_ok-text.text.items ≡ length (record_text path run) = ap length c.in_ok-text.ensures.text in
     let short : length (record_text path run) ≤ max_record = omega arith in
     let reported : IsText path run (record_text path run) = text_said path run c.in_ok-text.ensures.utf8 c.in_ok-text.ensures.held short in
-    put path old (g.F.Folder.device.contents c.write.new.self) memory entry run c.in_ok-place.ensures.path
+    put path old (g.F.Folder.device.contents c.write.new.folder) memory entry run c.in_ok-place.ensures.path
     (c.in-Ok.ensures.written faithful ∙ ap (λ p. record old { files = with_file old.files p c.as_slice.result.now }) c.in_ok-place.ensures.place
     ∙ ap (λ t. record old { files = with_file old.files (record_place path) t }) text) reported of existed
 
@@ -42,7 +42,7 @@ pub returns-clause-exists : goal.returns-clause-exists
 returns-clause-exists g c = λ faithful observed memory entry existed of.
     let F = g.F.Folder in
     let old = F.device.contents c.args.folder.now in
-    let new = F.device.contents c.write.new.self in
+    let new = F.device.contents c.write.new.folder in
     let path = c.args.path.now in
     let run = c.args.run.now in
     let text : c.as_slice.result.now ≡ record_text path run = c.as_slice.ensures.value ∙ c.in_ok-text.ensures.text in
@@ -68,7 +68,7 @@ pub returns-in-Ok-clause-calls : goal.returns-in-Ok-clause-calls
 returns-in-Ok-clause-calls g c =
     let F = g.F.Folder in
     let old = c.args.folder.now in
-    let new = c.write.new.self in
+    let new = c.write.new.folder in
     let place = c.in_ok-place.place in
     let bytes = c.as_slice.result.now in
     let path = c.args.path.now in
@@ -81,7 +81,7 @@ pub returns-clause-calls : goal.returns-clause-calls
 returns-clause-calls g c =
     let F = g.F.Folder in
     let old = c.args.folder.now in
-    let new = c.write.new.self in
+    let new = c.write.new.folder in
     let place = c.in_ok-place.place in
     let bytes = c.as_slice.result.now in
     let path = c.args.path.now in

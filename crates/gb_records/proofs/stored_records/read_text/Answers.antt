@@ -37,14 +37,14 @@ returns-in-Err-clause-answered g c =
 pub returns-in-Err-read-clause-answered : goal.returns-in-Err-read-clause-answered
 returns-in-Err-read-clause-answered g c =
     let F = g.F.Folder in
-    subst (λ r. IfOk r (WasTextAnswered F.device c.args.folder.now c.read.new.self c.args.path.now)) (sym c.none_if_missing.ensures)
-    (none_existed F.device c.args.folder.now c.read.new.self c.args.path.now c.in-Ok.place c.in-Err-read.fault)
+    subst (λ r. IfOk r (WasTextAnswered F.device c.args.folder.now c.read.new.folder c.args.path.now)) (sym c.none_if_missing.ensures)
+    (none_existed F.device c.args.folder.now c.read.new.folder c.args.path.now c.in-Ok.place c.in-Err-read.fault)
 
 pub returns-in-Ok-read-clause-answered : goal.returns-in-Ok-read-clause-answered
 returns-in-Ok-read-clause-answered g c =
     let F = g.F.Folder in
     let old = c.args.folder.now in
-    let new = c.read.new.self in
+    let new = c.read.new.folder in
     let bytes = c.in-Ok-read.bytes.items in
     let call : F.device.allowed old (Reads (record_place c.args.path.now) max_record (Ok bytes)) new =
     subst (λ (place : List ℕ). F.device.allowed old (Reads place max_record (Ok bytes)) new) c.in-Ok.ensures.place

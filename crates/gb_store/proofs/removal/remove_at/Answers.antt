@@ -39,7 +39,7 @@ pub returns-in-Err : goal.returns-in-Err
 returns-in-Err g c =
     let F = g.F.Folder in
     let old = F.device.contents c.args.folder.now in
-    let new = F.device.contents c.remove.new.self in
+    let new = F.device.contents c.remove.new.folder in
     let place = c.args.place.now in
     let fault = c.in-Err.fault in
     let sound = g.met.F.Folder.sound c.args.folder.now in
