@@ -6,11 +6,16 @@ use Rattle.gb_folder.specs.Files.{Bytes, Files, Place, is_own}
 use Rattle.gb_folder.specs.Limits.{max_files}
 use Rattle.gb_tree.specs.Property.{distinct, doubled, entries_in, in_order, paths_of, starts_in}
 use Rattle.gb_tree.specs.Reading.{KeepsOnly}
-use Rattle.gb_tree.specs.Tree.{Entries, entries_from}
+use Rattle.gb_tree.specs.Tree.{Entries, IsTreeFaultOfMachine, entries_from}
+use Rattle.gb_tree.specs.declared.fault.TreeFault.{TreeFault}
 use Rattle.gb_tree.specs.declared.kept.ScannedFile.{ScannedFile}
 use Rattle.gb_tree.specs.declared.property.Naming.{Naming}
 use Rattle.sha2.specs.Sha256.{sha256}
 use Rattle.gb_folder.specs.Calls.{Device}
+
+-- a fault of the machine between two states of the folder
+abbrev pub IsTreeFaultBetween : {F : Type 0} → Device F → F → F → TreeFault → Type 0
+IsTreeFaultBetween device old new = IsTreeFaultOfMachine (device.failures old) (device.failures new)
 
 -- what belongs to a property, among the places that calls returned as all at or under each start
 abbrev pub listed_in : Naming → List (List ℕ) → List (List ℕ) → List ((Place × Place) × List Place) → Entries

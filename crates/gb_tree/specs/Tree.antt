@@ -3,7 +3,6 @@ use Rattle.std.specs.Prelude.{ℕ, ◌≡◌, ◌⊎◌, ◌+◌, ◌++◌, Bool
 use Rattle.std.specs.Prelude.{nat_lt, unwrap_or, bytes_eq, Some, Result, Err}
 use Rattle.std.specs.List.{filter, list_any}
 use Rattle.gb_core.specs.Lists.{first_of}
-use Rattle.gb_folder.specs.Calls.{Device}
 use Rattle.gb_folder.specs.Files.{Place, Bytes, Files, Contents, HasRisen, file_at, is_special_under, is_own}
 use Rattle.gb_folder.specs.Files.{places_under}
 use Rattle.gb_folder.specs.Limits.{max_file, max_files}
@@ -76,10 +75,6 @@ abbrev pub IsTreeFaultOfMachine : ℕ → ℕ → TreeFault → Type 0
 IsTreeFaultOfMachine before after fault =
     (fault ≡ faults.OutOfMemory)
     ⊎ ((place : Place) × (fault ≡ faults.Device place) × HasRisen before after)
-
--- the same, for the failures between two states of a folder
-abbrev pub IsTreeFaultBetween : {F : Type 0} → Device F → F → F → TreeFault → Type 0
-IsTreeFaultBetween device old new = IsTreeFaultOfMachine (device.failures old) (device.failures new)
 
 -- refused by the machine, or with the first of these faults
 abbrev pub IsRefused : ℕ → ℕ → List TreeFault → TreeFault → Type 0

@@ -5,9 +5,9 @@ ghost use Rattle.std.specs.FinMap.Entries.{is_sorted, put};
 ghost use Rattle.gb_core.specs.Lists.{byte_order};
 ghost use Rattle.gb_folder.specs.Answers.{WereRead};
 ghost use Rattle.gb_folder.specs.Calls.{OnlyReads, Requests, no_change};
-ghost use Rattle.gb_tree.specs.Tree.{Blames, IsTreeFaultBetween, bytes_at, contents_at, is_among};
+ghost use Rattle.gb_tree.specs.Tree.{Blames, bytes_at, contents_at, is_among};
 ghost use Rattle.gb_tree.specs.Prints.{digests_of};
-ghost use Rattle.gb_tree.specs.Answered.{IsTreeRead, WasObserved, WereObserved};
+ghost use Rattle.gb_tree.specs.Answered.{IsTreeFaultBetween, IsTreeRead, WasObserved, WereObserved};
 ghost use Rattle.gb_tree.specs.Reading.{IsReading, IsObservedIn, entries_observed, is_digest_of};
 ghost use Rattle.sha2.specs.Sha256.{sha256};
 

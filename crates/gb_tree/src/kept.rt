@@ -2,7 +2,7 @@
 ghost use Rattle.std.specs.Prelude.{◌≡◌, ◌↔◌, [], map, IsTrue, IfOk, IfErr};
 ghost use Rattle.std.specs.List.{AllByRecursion};
 ghost use Rattle.gb_folder.specs.Calls.{OnlyReads, Requests, no_change};
-ghost use Rattle.gb_tree.specs.Tree.{Blames, IsTreeFaultBetween, contents_at, is_among};
+ghost use Rattle.gb_tree.specs.Tree.{Blames, contents_at, is_among};
 ghost use Rattle.gb_tree.specs.Prints.{digests_of};
 
 use crate::completing::complete_all;
@@ -50,7 +50,7 @@ impl Model for Reading {
 }
 
 impl Reading {
-    ghost use Rattle.gb_tree.specs.Answered.{IsTreeRead, WereObserved};
+    ghost use Rattle.gb_tree.specs.Answered.{IsTreeFaultBetween, IsTreeRead, WereObserved};
     ghost use Rattle.gb_tree.specs.Reading.{IsReading, IsObservedIn, digests_observed, entries_observed};
 
     pub(crate) fn new(name: Name, files: Vec<ScannedFile>) -> Reading
