@@ -1,5 +1,5 @@
 -- Folders that keep their calls, with the answers.
-use Rattle.std.specs.Prelude.{ℕ, ◌≡◌, ◌⊎◌, List, [], ◌∷◌, ◌++◌, map, Some}
+use Rattle.std.specs.Prelude.{◌≡◌, ◌⊎◌, List, [], ◌∷◌, ◌++◌, map, Some}
 use Rattle.gb_folder.specs.Calls.{Call, Lists, Reads, ReadsPart, Writes, Removes, Requests}
 use Rattle.gb_folder.specs.Calls.{fault_of, no_change}
 use Rattle.gb_folder.specs.declared.folder.FolderFault.TheVariants as folders

@@ -1,4 +1,4 @@
-use Rattle.std.proofs.Common.{refl, rules, inl, inr}
+use Rattle.std.proofs.Common.{rules, inl, inr}
 use Rattle.gb_folder.specs.Call.{ReadsPart, answered}
 use Rattle.gb_folder.proofs.Asked.{one_call}
 use Rattle.gb_logged.proofs.logged.LoggedFolderFolder.read_part.Goals as goal
@@ -7,13 +7,13 @@ pub returns-in_err-keep_read_part : goal.returns-in_err-keep_read_part
 returns-in_err-keep_read_part g c =
     let said = c.read_part-answer.ensures in
     record {
-      allowed = inr (c.in_err-keep_read_part.ensures.err, refl, one_call (ReadsPart c.args.place.now c.args.at c.args.len (answered c.read_part-answer.result)) tt said);
+      allowed = inr (c.in_err-keep_read_part.ensures.err, search rules, one_call (ReadsPart c.args.place.now c.args.at c.args.len (answered c.read_part-answer.result)) tt said);
       well = search rules;
       count = said.count;
       tearing = said.tearing;
       risen = search rules;
       back = said.back;
-      exact = λ known. (tt, (said.exact known).1);
+      exact = search rules;
     }
 
 pub returns : goal.returns

@@ -1,4 +1,4 @@
-use Rattle.std.proofs.Common.{refl, rules, inl, inr, ap}
+use Rattle.std.proofs.Common.{rules, inl, inr, ap}
 use Rattle.gb_folder.proofs.Asked.{requests_nothing}
 use Rattle.gb_logged.specs.Logged.{log_of}
 use Rattle.gb_logged.proofs.Keeping.{kept_write}
@@ -6,7 +6,7 @@ use Rattle.gb_logged.proofs.logged.LoggedFolderFolder.write.Goals as goal
 
 pub returns-in_err-reserve : goal.returns-in_err-reserve
 returns-in_err-reserve g c = record {
-  allowed = inr (ap log_of c.in_err-reserve.ensures.items, refl, requests_nothing c.args.self.now.inner);
+  allowed = inr (ap log_of c.in_err-reserve.ensures.items, search rules, requests_nothing c.args.self.now.inner);
   well = search rules;
   count = search rules;
   tearing = search rules;
