@@ -27,6 +27,7 @@ pub mod ByPlace
 pub mod Keeping
 pub mod Existed
 pub mod Counted
+pub mod Fits
 pub mod Looks
 pub mod AtPaths
 pub mod Writer
