@@ -159,7 +159,7 @@ not_large : (size : ℕ) → size ≤ max_file → nat_lt max_file size ≡ fals
 not_large size small = grind arith
 
 module _ (es : List Entry) where
-  all : Files
+  abbrev all : Files
   all = put_over [] (blank (left es))
 
   free : (place : Place) → list_any (λ (e : Entry). is_beneath place (string_bytes e.0)) es ≡ false → list_any (λ (f : Place × Bytes). is_beneath f.0 place) (left es) ≡ false

@@ -2,10 +2,11 @@
 //!
 //! All of them are checked by place, also those that stay as they are. So the first fault reported
 //! is the one that a full execution reports first.
-ghost use Rattle.std.specs.Prelude.{◌≡◌, ◌⊎◌, [], Some, IfOk, IfErr, IsTrue, OnOk, string_bytes};
+ghost use Rattle.std.specs.Prelude.{◌≡◌, ◌≤◌, ◌⊎◌, [], Some, IfOk, IfErr, IsTrue, OnOk, length, string_bytes};
 ghost use Rattle.std.specs.List.{AllByRecursion, flat_map, list_any};
 ghost use Rattle.gb_core.specs.Place.{is_beneath};
 ghost use Rattle.gb_core.specs.Lists.{first_of};
+ghost use Rattle.gb_folder.specs.Limits.{max_files};
 ghost use Rattle.gb_meaning.specs.Made.{file_faults, put_over};
 ghost use Rattle.gb_run.specs.Placing.{blank, faults_beside};
 ghost use Rattle.gb_run.specs.Named.{files_left};
@@ -32,7 +33,7 @@ pub fn check_held(
     ensures err { IfErr result (λ fault. (fault ≡ Fault.OutOfMemory)
         ⊎ (first_of (faults_beside outputs.now [] (files_left (steps_in steps.now))) ≡ Some fault)) }
 {
-    if steps.len() <= MAX_FILES && all_fit(steps) {
+    if all_fit(steps) {
         return Ok(());
     }
     let held = places_held(alloc, steps)?;
@@ -41,9 +42,16 @@ pub fn check_held(
     Ok(())
 }
 
-/// Whether it is plain that no file has a fault: each is at a place, not too large, and below no
-/// other. It takes no memory.
+/// Whether it is plain that no file has a fault: they are few, and each is at a place, not too large,
+/// and below no other. It takes no memory.
 fn all_fit(steps: &BTreeMap<String, Option<&Bytes>>) -> bool
+    ensures few { IsTrue result → length steps.now.entries ≤ max_files }
+    ensures fit { IsTrue result → AllByRecursion (Fits steps.now) (files_left (steps_in steps.now)) }
+{
+    steps.len() <= MAX_FILES && each_fits(steps)
+}
+
+fn each_fits(steps: &BTreeMap<String, Option<&Bytes>>) -> bool
     ensures { IsTrue result → AllByRecursion (Fits steps.now) (files_left (steps_in steps.now)) }
 {
     for (text, bytes) in steps.iter() {

@@ -5,11 +5,16 @@ use Rattle.gb_folder.specs.Files.{are_placed}
 use Rattle.gb_report.specs.declared.fault.Fault.{Fault}
 use Rattle.gb_report.specs.declared.fault.Fault.TheVariants as faults
 use Rattle.gb_store.proofs.Machine.{at_err}
+use Rattle.gb_run.proofs.Fits.{fitting}
 use Rattle.gb_run.specs.Placing.{count_faults, faults_beside}
 use Rattle.gb_run.proofs.Placed.{beside_is, first_more, placed_over}
 use Rattle.gb_run.specs.Named.{files_left}
 use Rattle.gb_run.specs.ChangeTexts.{steps_in}
 use Rattle.gb_run.proofs.after_reply.check_held.Goals as goal
+
+pub returns-then-all_fit-clause-ok : goal.returns-then-all_fit-clause-ok
+returns-then-all_fit-clause-ok c =
+    fitting c.args.steps.now c.args.outputs.now (c.all_fit.ensures.few c.if-all_fit.true) (c.all_fit.ensures.fit c.if-all_fit.true)
 
 pub check_counts-requires : goal.check_counts-requires
 check_counts-requires c = ap are_placed c.in_ok-held.ensures ∙ placed_over c.in_ok-held.held (files_left (steps_in c.args.steps.now)) [] c.in_ok-check_all.ensures.ok refl

@@ -7,7 +7,7 @@ use Rattle.std.specs.declared.string.String.{String}
 use Rattle.gb_folder.specs.Files.{Bytes}
 use Rattle.gb_run.specs.Named.{files_left}
 use Rattle.gb_run.specs.ChangeTexts.{Fits, steps_in}
-use Rattle.gb_run.proofs.after_reply.all_fit.Given as goal
+use Rattle.gb_run.proofs.after_reply.each_fits.Given as goal
 
 -- if all that are left fit, all do
 abbrev pub invariant-loop-text : goal.invariant-loop-text
