@@ -6,6 +6,7 @@
 //! Proved: that the program never panics, and that it ends if its system calls end.
 #![tactic(auto)]
 
+use gb_answer::answer::{not_built_text, refusal_text};
 use gb_answer::{builtin_actions, builtin_functions};
 use gb_build::{
     ActionTable, Answer, Bytes, Event, Fault, Place, Recorder, Tables, read_words, render,
@@ -37,7 +38,10 @@ fn built_with(rt: &HostRuntime, actions: ActionTable<StoredAction>) -> Result<u8
         transforms,
     };
     let alloc = rt.alloc();
-    let events = events(alloc).ok().ok_or(AllocError)?;
+    let events = match events(alloc) {
+        Ok(events) => events,
+        Err(fault) => return refused(rt, &fault),
+    };
     let mut listeners: Vec<Recorder> = Vec::new(alloc);
     let (_, answers) = run_from_nothing::<Builtin, Builtin, Recorder>(
         alloc,
@@ -48,8 +52,16 @@ fn built_with(rt: &HostRuntime, actions: ActionTable<StoredAction>) -> Result<u8
     printed(rt, &answers)
 }
 
+/// Prints why there are no events.
+fn refused(rt: &HostRuntime, fault: &Fault) -> Result<u8, AllocError> {
+    let text = not_built_text(rt.alloc(), fault)?;
+    let _ = io::writer(rt).write_all(text.as_slice());
+    Ok(1)
+}
+
 /// The events: a script is stored and built twice.
 fn events(alloc: Global) -> Result<Vec<Event>, Fault> {
+    // It is a place, so only memory may lack.
     let Ok(place) = Place::read(alloc, "build.gb") else {
         return Err(Fault::OutOfMemory);
     };
@@ -63,15 +75,35 @@ fn events(alloc: Global) -> Result<Vec<Event>, Fault> {
     Ok(events)
 }
 
-/// Prints each report.
+/// Prints the answer of each event. The status is 1 if an edit or a build was refused, if a task
+/// failed, or if nothing can be printed.
 fn printed(rt: &HostRuntime, answers: &[Answer]) -> Result<u8, AllocError> {
+    let mut status = 0;
     for answer in answers {
-        if let Answer::Built(report) = answer {
-            let text = render(rt.alloc(), report)?;
-            if io::writer(rt).write_all(text.as_slice()).is_err() {
-                return Ok(1);
-            }
+        let text = text_of(rt.alloc(), answer)?;
+        let is_printed = io::writer(rt).write_all(text.as_slice()).is_ok();
+        if !is_printed || !is_good(answer) {
+            status = 1;
         }
     }
-    Ok(0)
+    Ok(status)
+}
+
+/// What is printed of an answer.
+fn text_of(alloc: Global, answer: &Answer) -> Result<Vec<u8>, AllocError> {
+    match answer {
+        Answer::Edited => Ok(Vec::new(alloc)),
+        Answer::Refused(fault) => refusal_text(alloc, fault),
+        Answer::Built(report) => render(alloc, report),
+        Answer::NotBuilt(fault) => not_built_text(alloc, fault),
+    }
+}
+
+/// Whether the event did what was asked.
+fn is_good(answer: &Answer) -> bool {
+    match answer {
+        Answer::Edited => true,
+        Answer::Built(report) => report.is_successful(),
+        Answer::Refused(_) | Answer::NotBuilt(_) => false,
+    }
 }
