@@ -1,5 +1,5 @@
 use Rattle.std.specs.Prelude.{[], None}
-use Rattle.gb_ask.proofs.asked.Given as goal
+use Rattle.gb_ask_here.proofs.here.asked.Given as goal
 
 -- nothing is said of the folder
 abbrev pub ghost-for_one_build : goal.ghost-for_one_build
