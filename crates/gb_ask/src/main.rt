@@ -27,5 +27,5 @@ fn asked(rt: &HostRuntime) -> Result<u8, AllocError> {
 /// Runs the query with these actions and all functions of values.
 fn asked_with(rt: &HostRuntime, actions: ActionTable<StoredAction>) -> Result<u8, AllocError> {
     let transforms = builtin_functions!(rt.alloc());
-    Ok(ask_here::<Builtin, Builtin, _>(rt, actions, transforms))
+    Ok(ask_here::<Builtin, Builtin, _>(rt, Ok(actions), transforms))
 }

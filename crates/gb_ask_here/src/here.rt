@@ -1,7 +1,7 @@
 //! The query that the arguments name, over the current directory.
 use crate::questions::{drawn, noted, split_option};
 use gb_action::actions::Actions;
-use gb_action::table::ActionTable;
+use gb_action::table::{ActionTable, TableFault};
 use gb_ask_command::fmt;
 use gb_ask_command::words::{Mode, Question, USAGE, mode_of, question_of};
 use gb_command::run::UNPRINTED;
@@ -9,6 +9,7 @@ use gb_disk::disk::DiskFolder;
 use gb_folder::folder::Folder;
 use gb_here::here::Functions;
 use gb_here::lock::locks;
+use gb_here::refused::print_refused;
 use gb_here::words::command_words;
 use gb_printer::page::Page;
 use gb_printer::printer::Printer;
@@ -26,17 +27,33 @@ const MAX_INPUT: u64 = 1_048_577;
 /// Runs the query that the arguments name, with these kinds and functions, over the current
 /// directory, and prints the answer. The exit status is 0, or 1 if the query says so, is refused, or
 /// could not be printed (also if memory ran out), or 2 after words that are no query, with the usage
-/// text.
+/// text. It is 1 also where there is no table, as two kinds have one name (fault 41) or memory ran
+/// out (3).
 pub fn ask_here<
     A: Actions,
     T: Transforms,
     R: Files<File = File> + Env + Input + Print + AllocGlobal,
->(rt: &R, actions: ActionTable<A::Stored>, transforms: Functions<T>) -> u8 {
-    let tables = Tables {
-        actions,
-        transforms,
+>(rt: &R, actions: Result<ActionTable<A::Stored>, TableFault>, transforms: Functions<T>) -> u8 {
+    let answered = match actions {
+        Ok(actions) => answered::<A, T, R>(
+            rt,
+            &Tables {
+                actions,
+                transforms,
+            },
+        ),
+        Err(fault) => refused(rt, fault),
     };
-    answered::<A, T, R>(rt, &tables).unwrap_or(UNPRINTED)
+    answered.unwrap_or(UNPRINTED)
+}
+
+/// Prints why there is no table.
+fn refused<R: Print + AllocGlobal>(rt: &R, fault: TableFault) -> Result<u8, AllocError> {
+    let Ok(mut writer) = BufWriter::new(rt.alloc(), io::writer(rt)) else {
+        return Err(AllocError);
+    };
+    let _ = print_refused(&mut writer, fault);
+    Ok(UNPRINTED)
 }
 
 /// Runs the query with these tables.
