@@ -25,7 +25,7 @@ use Rattle.gb_plan.specs.declared.task.Output.{Output}
 use Rattle.gb_meaning.specs.Made.{fault_if, file_faults, put_over}
 use Rattle.gb_run.specs.ChangeTexts.{ByText, Fits, steps_in}
 use Rattle.gb_run.specs.Named.{files_left}
-use Rattle.gb_run.specs.Placing.{blank, faults_beside}
+use Rattle.gb_run.specs.Placing.{blank, count_faults, faults_beside}
 use Rattle.gb_run.proofs.Counted.{none_full}
 use Rattle.gb_run.proofs.Placed.{beside_is}
 
@@ -199,5 +199,5 @@ fitting steps outputs few fit =
     let most = no_more files [] in
     let short : length held ≤ max_files = omega (arith, few, less, most) in
     beside_is outputs [] held files files refl refl
-    ∙ ap (λ (found : List Fault). found ++ _) (no_faults es steps refl files fit (columns files files (above_none es steps refl files fit)))
+    ∙ ap (λ (found : List Fault). found ++ count_faults outputs held) (no_faults es steps refl files fit (columns files files (above_none es steps refl files fit)))
     ∙ none_full outputs held short
