@@ -14,7 +14,7 @@ pub returns-in_default : goal.returns-in_default
 returns-in_default g c =
     let read = c.in-Err.ensures in
     record {
-      reads = record { requests = read.requests; same = read.same };
+      reads = read.reads;
       lines = λ faithful. tt;
       err = λ faithful.
           unread_there (g.F.Folder.device.contents c.args.folder.now).files c.args.place.now _ _ c.in-Err.fault c.unread.result c.unread.ensures
