@@ -12,7 +12,7 @@ use std::alloc::Global;
 
 /// The stored actions of a program, and the meaning of each of their kinds.
 pub trait Actions {
-    /// One action: a closure with its kind.
+    /// One action: its kind, and a closure if the kind does not have the code itself.
     type Stored: Drop;
 
     /// What each kind takes, makes and prints, and the kind and version of each stored action.

@@ -9,7 +9,7 @@ use gb_core::text::{Text, Texts};
 use std::alloc::{AllocError, AllocFailed};
 use thiserror::Error;
 
-/// A file to write: the output, the path from its place (none for the place itself), the bytes.
+/// A file to write: the output, the path from its place (empty for the place itself), the bytes.
 #[derive(Drop)]
 pub struct Written {
     /// The name of an output of the task.

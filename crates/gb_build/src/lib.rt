@@ -1,4 +1,5 @@
-//! Builds: everything that an embedder of the tool needs, except the kinds themselves (`gb_kinds`).
+//! Builds: what most embedders of the tool need, except the kinds (`gb_kinds`) and their tables
+//! (`gb_answer`).
 //!
 //! A folder holds scripts. [`invoke`] makes one build of it, [`run_events`] executes any list of
 //! edits and builds, and [`run_from_nothing`] does so over an empty folder in memory.

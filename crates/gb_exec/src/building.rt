@@ -68,8 +68,8 @@ pub fn execute<A: Actions, F: Folder, L: TaskListener, P: Printer>(
     ensures count { F.device.failures folder.old ≤ F.device.failures folder.new }
     ensures tearing { SameTearing (F.device.may_leave folder.old) (F.device.may_leave folder.new) }
     // Over any folder: task after task, each from the state in which the one before it ended, makes
-    // the calls that its outcome permits. What is up to date was found so on what calls returned
-    // since the last change of the build, or since the build began.
+    // the calls that its outcome permits. A task is up to date only by what calls returned since the
+    // last change that the build asked for, or since the build began.
     ensures requests { IfOk result (λ report. ExecutionsRequest F.device A.meanings
         table.now
         options plan.now records.now report.tasks folder.old folder.old folder.new) }

@@ -18,11 +18,11 @@
 //! or none for each. `build`: where contents are known, kinds agree (`IsAssumed`) and the records are
 //! those that are remembered (`AreTrueBefore`), it is a build of the plan by the definitions, as long as
 //! no two contents that it met share a digest (`HasBuilt`). `outline`: over any folder, which tasks
-//! start, and which outcomes each may have. It does not say which of these a started task with
+//! start, and which outcomes each may have, but not which of these outcomes a started task with
 //! actions has, with which fault it fails, nor what it prints if it ran or failed.
 //!
-//! `starts_of`, `does_start`, `has_executed_need` and `end` decide by number which tasks start; the
-//! last three take no memory. `starts_by_number` and `needs_by_number` are the laws that this is
+//! `starts_of`, `does_start` and `has_executed_need` decide by number which tasks start, from the
+//! outcomes that `end` records; the last three of these take no memory. `starts_by_number` and `needs_by_number` are the laws that this is
 //! the definition by path (`Execution.DoesStart`). `reported_more` and `reported_is_heard` are the
 //! laws of listeners.
 #![tactic(auto)]

@@ -186,7 +186,7 @@ impl RecordReader {
     }
 
     /// The record of a task with this text, in either edition; any other text gives 80. The digest
-    /// is of what the text's seal is of.
+    /// is the SHA-256 of the text without its seal, which is its last 66 bytes (`unsealed`).
     pub fn read(
         &mut self,
         path: &TaskPath,

@@ -6,7 +6,7 @@
 //!
 //! A [`plan::Plan`] has the scheduled tasks in the order in which they run, each with all its
 //! expressions evaluated. It answers `order`, `declaration`, `is_scheduled`, `is_selected`, `needs`
-//! and `is_finalizer_of` without memory, each by one look along the tasks.
+//! and `is_finalizer_of` without memory, each by at most two looks along the tasks.
 #![tactic(auto)]
 
 pub mod laws;
