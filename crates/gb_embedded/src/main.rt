@@ -25,28 +25,36 @@ fn main(rt: HostRuntime) -> ExitCode {
     ExitCode::from(built(&rt).unwrap_or(1))
 }
 
-/// Builds with all actions.
+/// Takes the events, or prints why there are none.
 fn built(rt: &HostRuntime) -> Result<u8, AllocError> {
-    built_with(rt, builtin_actions!(rt.alloc()))
+    match events(rt.alloc()) {
+        Ok(events) => built_of(rt, events.as_slice()),
+        Err(fault) => refused(rt, &fault),
+    }
 }
 
-/// Builds with these actions and all functions of values.
-fn built_with(rt: &HostRuntime, actions: ActionTable<StoredAction>) -> Result<u8, AllocError> {
+/// Takes the events with all actions.
+fn built_of(rt: &HostRuntime, events: &[Event]) -> Result<u8, AllocError> {
+    built_with(rt, builtin_actions!(rt.alloc()), events)
+}
+
+/// Takes the events with these actions and all functions of values.
+fn built_with(
+    rt: &HostRuntime,
+    actions: ActionTable<StoredAction>,
+    events: &[Event],
+) -> Result<u8, AllocError> {
     let transforms: FunctionTable = builtin_functions!(rt.alloc());
     let tables = Tables {
         actions,
         transforms,
     };
     let alloc = rt.alloc();
-    let events = match events(alloc) {
-        Ok(events) => events,
-        Err(fault) => return refused(rt, &fault),
-    };
     let mut listeners: Vec<Recorder> = Vec::new(alloc);
     let (_, answers) = run_from_nothing::<Builtin, Builtin, Recorder>(
         alloc,
         &tables,
-        &events,
+        events,
         &mut listeners,
     )?;
     printed(rt, &answers)
