@@ -26,31 +26,31 @@ use Rattle.gb_declare.proofs.CopyLemmas.{answers_in_part}
 use Rattle.gb_declare.proofs.PartLemmas.{part_answers}
 
 -- a result that gives no tasks
-abbrev pub NoTasks : Produced → Type 0
+abbrev pub NoTasks : Produced ℕ → Type 0
 NoTasks (produced.Tasks tasks) = ⊥
 NoTasks (produced.Refused fault) = Unit {0}
 NoTasks (produced.Endless chooser) = Unit {0}
 
 module _ {M F Z S : Type 0} (meanings : Meanings M F Z S) (number : ℕ → ℕ) (part whole : List (Expression M F Z)) (is_part : IsPartOf number part whole) where
-  abbrev Like : Rule Produced → Rule Produced → Type 0
+  abbrev Like : Rule ℕ (Produced ℕ) → Rule ℕ (Produced ℕ) → Type 0
   Like = IsLike (length part) number NoTasks
 
   same_carry : (operand : ℕ) → operand < length part → Like (carry operand) (carry (number operand))
   same_carry operand within = (within, refl, λ a none. refl, λ a. inr (inr refl))
 
-  same_property : (setting : Option Setting) (convention : Option ℕ) → SettingWithin (length part) setting → PlaceWithin (length part) convention
+  same_property : (setting : Option (Setting ℕ)) (convention : Option ℕ) → SettingWithin (length part) setting → PlaceWithin (length part) convention
       → Like (carry_property setting convention) (carry_property (option_map (renamed_setting number) setting) (option_map number convention))
   same_property (Some (Held value)) convention s p = inr refl
   same_property (Some (Followed source)) convention s p = same_carry source s
   same_property None (Some source) s p = same_carry source p
   same_property None None s p = inr refl
 
-  passed_tasks : (go_on : List (List ℕ) → Rule Produced) (a : Produced) → NoTasks a → on_tasks go_on a ≡ Answers a
+  passed_tasks : (go_on : List (List ℕ) → Rule ℕ (Produced ℕ)) (a : Produced ℕ) → NoTasks a → on_tasks go_on a ≡ Answers a
   passed_tasks go_on (produced.Tasks tasks) none = absurd none
   passed_tasks go_on (produced.Refused fault) none = refl
   passed_tasks go_on (produced.Endless chooser) none = refl
 
-  next_tasks : (go_on go_on' : List (List ℕ) → Rule Produced) → ((tasks : List (List ℕ)) → Like (go_on tasks) (go_on' tasks)) → (a : Produced) → NoTasks a ⊎ Like (on_tasks go_on a) (on_tasks go_on' a)
+  next_tasks : (go_on go_on' : List (List ℕ) → Rule ℕ (Produced ℕ)) → ((tasks : List (List ℕ)) → Like (go_on tasks) (go_on' tasks)) → (a : Produced ℕ) → NoTasks a ⊎ Like (on_tasks go_on a) (on_tasks go_on' a)
   next_tasks go_on go_on' all (produced.Tasks tasks) = inr (all tasks)
   next_tasks go_on go_on' all (produced.Refused fault) = inl tt
   next_tasks go_on go_on' all (produced.Endless chooser) = inl tt

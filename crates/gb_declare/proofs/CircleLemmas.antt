@@ -4,7 +4,7 @@ use Rattle.std.proofs.lemmas.Bool.{cases_lt}
 use Rattle.std.proofs.lemmas.List.{length-map, get_or-map}
 use Rattle.std.proofs.lemmas.Option.{slice_get-map}
 use Rattle.std.specs.Prelude.{Option, Some, None, slice_get, slice_index, map}
-use Rattle.gb_provider.specs.Circle.{IsCircle}
+use Rattle.gb_provider.proofs.CircleLemmas.{IsIndexedCircle, circle_by_index, circle_of_index}
 use Rattle.gb_provider.specs.Meanings.{Meanings}
 use Rattle.gb_provider.specs.Names.{names_of, names_on}
 use Rattle.gb_provider.specs.Rounds.{Rule, reading, awaited, and_then, answer, next_awaited}
@@ -29,7 +29,7 @@ module _ {M F Z S : Type 0} (meanings : Meanings M F Z S) (number : ℕ → ℕ)
   next_there x s e = next_in_part number (IsPending part whole) (rules meanings part) (rules meanings whole) (rules_are_part meanings number part whole is_part) x s e
 
   -- what awaits something is in the table
-  rule_there : (x s : ℕ) (o : Option (Rule Outcome)) → and_then (λ r. awaited (reading (answer (rules meanings part)) r)) o ≡ Some s → (r : Rule Outcome) × (o ≡ Some r)
+  rule_there : (x s : ℕ) (o : Option (Rule ℕ Outcome)) → and_then (λ r. awaited (reading (answer (rules meanings part)) r)) o ≡ Some s → (r : Rule ℕ Outcome) × (o ≡ Some r)
   rule_there x s None e = cc
   rule_there x s (Some r) e = (r, refl)
 
@@ -60,7 +60,7 @@ module _ {M F Z S : Type 0} (meanings : Meanings M F Z S) (number : ℕ → ℕ)
       ap (λ l. l ++ names_on whole (map number xs)) (same_names x here.0 here.1)
       ∙ ap (λ l. names_of (slice_get part x) ++ l) (names_same xs (λ i below. all (suc i) (omega arith)))
 
-  module _ (entry : ℕ) (circle : List ℕ) (separate : AreDistinct number circle) (is : IsCircle (rules meanings part) entry circle) where
+  module _ (entry : ℕ) (circle : List ℕ) (separate : AreDistinct number circle) (is : IsIndexedCircle (rules meanings part) entry circle) where
     same_length : length (map number circle) ≡ length circle
     same_length = length-map circle number
 
@@ -84,7 +84,7 @@ module _ {M F Z S : Type 0} (meanings : Meanings M F Z S) (number : ℕ → ℕ)
         let within : j < length circle = omega (arith, below, same_length) in
         separate i j less within (sym (at_map number circle i (omega arith)) ∙ same ∙ at_map number circle j within)
 
-    moved_circle : IsCircle (rules meanings whole) (number entry) (map number circle)
+    moved_circle : IsIndexedCircle (rules meanings whole) (number entry) (map number circle)
     moved_circle = record {
       some = omega (arith, same_length, is.some);
       reached = (
@@ -112,4 +112,7 @@ module _ {M F Z S : Type 0} (meanings : Meanings M F Z S) (number : ℕ → ℕ)
 
 pub circles_stay : {M F Z S : Type 0} (meanings : Meanings M F Z S) → CirclesStay meanings
 circles_stay meanings number part whole is_part entry circle separate is =
-    (moved_circle meanings number part whole is_part entry circle separate is, moved_names meanings number part whole is_part entry circle separate is)
+    let indexed = circle_by_index (rules meanings part) entry circle is in (
+      circle_of_index (rules meanings whole) (number entry) (map number circle) (moved_circle meanings number part whole is_part entry circle separate indexed),
+      moved_names meanings number part whole is_part entry circle separate indexed,
+    )

@@ -12,6 +12,7 @@ use Rattle.std.specs.Ordering.{min_by_ordering, ordering_reverse}
 use Rattle.std.specs.Prelude.{Option, Some, None, slice_get, slice_index, ◌⊎◌}
 use Rattle.std.specs.declared.cmp.Ordering.{Ordering}
 use Rattle.std.specs.declared.cmp.Ordering.TheVariants.{Less, Equal, Greater}
+use Rattle.gb_provider.proofs.CircleLemmas.{circle_by_index}
 use Rattle.gb_provider.proofs.NamesLemmas.{least_now, least_still}
 use Rattle.gb_provider.specs.Answers.{RunsInto}
 use Rattle.gb_provider.specs.Circle.{awaited_after}
@@ -123,8 +124,8 @@ module _ (names : List (List ℕ)) where
 
 -- ---- To the circle, and around it
 
-module _ {A : Type 0} (rules : List (Rule A)) where
-  rule_there : (entry y : ℕ) (o : Option (Rule A)) → and_then (λ rule. awaited (reading (answer rules) rule)) o ≡ Some y → (rule : Rule A) × (o ≡ Some rule)
+module _ {A : Type 0} (rules : List (Rule ℕ A)) where
+  rule_there : (entry y : ℕ) (o : Option (Rule ℕ A)) → and_then (λ rule. awaited (reading (answer rules) rule)) o ≡ Some y → (rule : Rule ℕ A) × (o ≡ Some rule)
   rule_there entry y None e = cc
   rule_there entry y (Some rule) e = (rule, refl)
 
@@ -310,7 +311,8 @@ module _ {A : Type 0} (rules : List (Rule A)) where
 module _ {M F Z S : Type 0} (meanings : Meanings M F Z S) (nodes : List (Expression M F Z)) (entry : ℕ) where
   runs_into_names : (names : List (List ℕ)) → RunsInto meanings nodes entry names → names ≡ circle_names meanings nodes entry
   runs_into_names names run =
-      reported_by (rules meanings nodes) entry nodes run.1.reached.0 run.0 names (ring_of (rules meanings nodes) entry run.0 run.1) run.1.reached.1
+      let at = circle_by_index (rules meanings nodes) entry run.0 run.1 in
+      reported_by (rules meanings nodes) entry nodes at.reached.0 run.0 names (ring_of (rules meanings nodes) entry run.0 at) at.reached.1
       (least_of_all (names_on nodes run.0) names run.2)
 
 pub reported_by_names : {M F Z S A : Type 0} (tables : Tables M F Z S A) (source : Source) → IsReportedBy tables source (reported_circle tables source)

@@ -2,6 +2,7 @@
 use Rattle.std.proofs.Common.{◌≡◌, ◌≢◌, ℕ, zero, suc, ◌+◌, ◌<◌, List, [], ◌∷◌, length, Some, refl, arith}
 use Rattle.std.specs.Prelude.{codes, slice_index}
 use Rattle.std.specs.declared.cmp.Ordering.TheVariants.{Greater}
+use Rattle.gb_provider.proofs.CircleLemmas.{circle_of_index}
 use Rattle.gb_provider.specs.Circle.{IsCircle}
 use Rattle.gb_provider.specs.Names.{IsLeastRound, names_on, names_order, round_from}
 use Rattle.gb_provider.specs.Rounds.{next_awaited}
@@ -41,7 +42,9 @@ are_different (suc (suc i)) (suc (suc zero)) less below same = omega arith
 are_different i (suc (suc (suc j))) less below same = omega arith
 
 pub is_circle : IsCircle (rules tables.means nodes) 1 circle
-is_circle = record { some = omega arith; reached = (0, refl); next = next_is; closed = refl; different = are_different }
+is_circle =
+    circle_of_index (rules tables.means nodes) 1 circle
+    (record { some = omega arith; reached = (0, refl); next = next_is; closed = refl; different = are_different })
 
 abbrev pub names : List (List ℕ)
 names = codes ":#a" ∷ codes ":#b" ∷ []

@@ -27,27 +27,27 @@ module _ {M F Z S : Type 0} (meanings : Meanings M F Z S) (number : ℕ → ℕ)
   abbrev Pending : Outcome → Type 0
   Pending = IsPending part whole
 
-  abbrev Like : Rule Outcome → Rule Outcome → Type 0
+  abbrev Like : Rule ℕ Outcome → Rule ℕ Outcome → Type 0
   Like = IsLike (length part) number Pending
 
   -- what a rule does with a fault it does with a pending one
-  passed : (next : Outcome → Rule Outcome) → ((chosen : Chosen) → next (Refused (Unrealised chosen)) ≡ Answers (Refused (Unrealised chosen))) → (a : Outcome) → Pending a → next a ≡ Answers a
+  passed : (next : Outcome → Rule ℕ Outcome) → ((chosen : Chosen) → next (Refused (Unrealised chosen)) ≡ Answers (Refused (Unrealised chosen))) → (a : Outcome) → Pending a → next a ≡ Answers a
   passed next refuses a pending = subst (λ b. next b ≡ Answers b) (sym pending.1) (refuses pending.0)
 
   same_follow : (operand : ℕ) → operand < length part → Like (follow operand) (follow (number operand))
   same_follow operand within = (within, refl, λ a pending. refl, λ a. inr (inr refl))
 
-  value_next : (go_on go_on' : Value → Rule Outcome) → ((value : Value) → Like (go_on value) (go_on' value)) → (a : Outcome) → Pending a ⊎ Like (on_value go_on a) (on_value go_on' a)
+  value_next : (go_on go_on' : Value → Rule ℕ Outcome) → ((value : Value) → Like (go_on value) (go_on' value)) → (a : Outcome) → Pending a ⊎ Like (on_value go_on a) (on_value go_on' a)
   value_next go_on go_on' all (Given value) = inr (all value)
   value_next go_on go_on' all Absent = inr (inr refl)
   value_next go_on go_on' all (Refused fault) = inr (inr refl)
 
   -- a rule that continues where its operand is a value
-  same_value : (operand : ℕ) (go_on go_on' : Value → Rule Outcome) → operand < length part → ((value : Value) → Like (go_on value) (go_on' value))
+  same_value : (operand : ℕ) (go_on go_on' : Value → Rule ℕ Outcome) → operand < length part → ((value : Value) → Like (go_on value) (go_on' value))
       → Like (Reads operand (on_value go_on)) (Reads (number operand) (on_value go_on'))
   same_value operand go_on go_on' within all = (within, refl, passed (on_value go_on) (λ chosen. refl), value_next go_on go_on' all)
 
-  same_property : (setting : Option Setting) (convention : Option ℕ) → SettingWithin (length part) setting → PlaceWithin (length part) convention
+  same_property : (setting : Option (Setting ℕ)) (convention : Option ℕ) → SettingWithin (length part) setting → PlaceWithin (length part) convention
       → Like (property_rule setting convention) (property_rule (option_map (renamed_setting number) setting) (option_map number convention))
   same_property (Some (Held value)) convention s p = inr refl
   same_property (Some (Followed source)) convention s p = same_follow source s
@@ -58,7 +58,7 @@ module _ {M F Z S : Type 0} (meanings : Meanings M F Z S) (number : ℕ → ℕ)
   same_output chosen (Some source) p = same_follow source p
   same_output chosen None p = inr refl
 
-  same_text : (go_on go_on' : List ℕ → Rule Outcome) (other other' : Rule Outcome) → ((text : List ℕ) → Like (go_on text) (go_on' text)) → Like other other'
+  same_text : (go_on go_on' : List ℕ → Rule ℕ Outcome) (other other' : Rule ℕ Outcome) → ((text : List ℕ) → Like (go_on text) (go_on' text)) → Like other other'
       → (value : Value) → Like (on_text go_on other value) (on_text go_on' other' value)
   same_text go_on go_on' other other' all same (values.Text text) = all text
   same_text go_on go_on' other other' all same (values.Flag flag) = same
@@ -86,7 +86,7 @@ module _ {M F Z S : Type 0} (meanings : Meanings M F Z S) (number : ℕ → ℕ)
   same_place chosen None (Some k) is there = inl (chosen, refl, is, (k, there))
   same_place chosen None None is there = inr refl
 
-  same_choice : (function : List ℕ) (reply : Result (Option Chosen) Refusal) → Like (chosen_rule part function reply) (chosen_rule whole function reply)
+  same_choice : (function : List ℕ) (reply : Result (Option Chosen) Refusal) → Like (chosen_rule (output_place part) function reply) (chosen_rule (output_place whole) function reply)
   same_choice function (Ok (Some chosen)) = same_place chosen (output_place part chosen) (output_place whole chosen) refl refl
   same_choice function (Ok None) = inr refl
   same_choice function (Err refusal) = inr refl

@@ -2,7 +2,7 @@
 use Rattle.std.proofs.Common.{◌≡◌, ℕ, zero, suc, ◌+◌, ◌-◌, ◌<◌, Bool, true, false, List, length, refl, sym, ap, ◌∙◌, arith, inl, inr}
 use Rattle.std.proofs.lemmas.Bool.{cases_lt}
 use Rattle.std.specs.Prelude.{Some, slice_get, slice_index, ◌⊎◌}
-use Rattle.gb_provider.specs.Circle.{IsCircle}
+use Rattle.gb_provider.proofs.CircleLemmas.{IsIndexedCircle, circle_by_index}
 use Rattle.gb_provider.specs.Meanings.{Meanings}
 use Rattle.gb_provider.specs.Rounds.{next_awaited}
 use Rattle.gb_provider.specs.Rules.{rules}
@@ -15,7 +15,7 @@ same_next : (a b : ℕ) → Some a ≡ Some b → a ≡ b
 same_next a b e = cc
 
 module _ {M F Z S : Type 0} (meanings : Meanings M F Z S) (number : ℕ → ℕ) (part whole : List (Expression M F Z)) (is_part : IsPartOf number part whole) (ordered : AreOrdered meanings number part)
-    (entry : ℕ) (circle : List ℕ) (is : IsCircle (rules meanings part) entry circle) where
+    (entry : ℕ) (circle : List ℕ) (is : IsIndexedCircle (rules meanings part) entry circle) where
   -- the index after one, cyclically
   Next : ℕ → Type 0
   Next i = (j : ℕ) × (j < length circle) × (next_awaited (rules meanings part) (slice_index circle i) ≡ Some (slice_index circle j)) × ((j ≡ i + 1) ⊎ ((j ≡ 0) × (i + 1 ≡ length circle)))
@@ -92,4 +92,4 @@ module _ {M F Z S : Type 0} (meanings : Meanings M F Z S) (number : ℕ → ℕ)
 
 pub circles_are_distinct : {M F Z S : Type 0} (meanings : Meanings M F Z S) → CirclesAreDistinct meanings
 circles_are_distinct meanings number part whole is_part ordered entry circle is i j less below same =
-    distinct_on_circle meanings number part whole is_part ordered entry circle is i j less below same
+    distinct_on_circle meanings number part whole is_part ordered entry circle (circle_by_index (rules meanings part) entry circle is) i j less below same

@@ -25,7 +25,7 @@ prefix_or_last (x ∷ xs) y z (suc i) e =
     ]
 
 module _ (number number' : ℕ → ℕ) (n : ℕ) (agree : (i : ℕ) → i < n → number' i ≡ number i) where
-  same_setting : (setting : Option Setting) → SettingWithin n setting → option_map (renamed_setting number') setting ≡ option_map (renamed_setting number) setting
+  same_setting : (setting : Option (Setting ℕ)) → SettingWithin n setting → option_map (renamed_setting number') setting ≡ option_map (renamed_setting number) setting
   same_setting None within = refl
   same_setting (Some (Held value)) within = refl
   same_setting (Some (Followed source)) within = ap (λ i. Some (Followed i)) (agree source within)

@@ -34,14 +34,14 @@ use Rattle.gb_declare.proofs.AllLemmas.{with_all}
 
 module _ (f : ℕ → Option Outcome) where
   -- a rule that continues where its operand is a value, and ends with a value
-  given_at : (operand : ℕ) (go_on : Value → Rule Outcome) (v : Value) (o : Option Outcome) → f operand ≡ o → after_operand operand (λ a. reading f (on_value go_on a)) o ≡ Settles (Given v)
+  given_at : (operand : ℕ) (go_on : Value → Rule ℕ Outcome) (v : Value) (o : Option Outcome) → f operand ≡ o → after_operand operand (λ a. reading f (on_value go_on a)) o ≡ Settles (Given v)
       → (w : Value) × (f operand ≡ Some (Given w)) × (reading f (go_on w) ≡ Settles (Given v))
   given_at operand go_on v None is e = cc
   given_at operand go_on v (Some (Given w)) is e = (w, is, e)
   given_at operand go_on v (Some Absent) is e = cc
   given_at operand go_on v (Some (Refused fault)) is e = cc
 
-  given_operand : (operand : ℕ) (go_on : Value → Rule Outcome) (v : Value) → reading f (Reads operand (on_value go_on)) ≡ Settles (Given v)
+  given_operand : (operand : ℕ) (go_on : Value → Rule ℕ Outcome) (v : Value) → reading f (Reads operand (on_value go_on)) ≡ Settles (Given v)
       → (w : Value) × (f operand ≡ Some (Given w)) × (reading f (go_on w) ≡ Settles (Given v))
   given_operand operand go_on v e = given_at operand go_on v (f operand) refl e
 
@@ -49,14 +49,14 @@ module _ (f : ℕ → Option Outcome) where
   follow_at operand v None is e = cc
   follow_at operand v (Some a) is e = let same : a ≡ Given v = same_given a e in is ∙ ap Some same
     where
-      same_given : (b : Outcome) → Settles b ≡ Settles (Given v) → b ≡ Given v
+      same_given : (b : Outcome) → ◌≡◌ {A = Reading ℕ Outcome} (Settles b) (Settles (Given v)) → b ≡ Given v
       same_given b e = cc
 
   followed_operand : (operand : ℕ) (v : Value) → reading f (follow operand) ≡ Settles (Given v) → f operand ≡ Some (Given v)
   followed_operand operand v e = follow_at operand v (f operand) refl e
 
   -- a given list continues after each of its elements
-  text_given : (go_on : List ℕ → Rule Outcome) (other : Rule Outcome) (v w : Value) → reading f (on_text go_on other w) ≡ Settles (Given v)
+  text_given : (go_on : List ℕ → Rule ℕ Outcome) (other : Rule ℕ Outcome) (v w : Value) → reading f (on_text go_on other w) ≡ Settles (Given v)
       → ((text : List ℕ) × (reading f (go_on text) ≡ Settles (Given v))) ⊎ (reading f other ≡ Settles (Given v))
   text_given go_on other v (values.Text text) e = inl (text, e)
   text_given go_on other v (values.Flag flag) e = inr e
@@ -67,7 +67,7 @@ module _ (f : ℕ → Option Outcome) where
 -- ---- Good tasks: those with some property, whatever it is
 
 -- the tasks of the value that a property holds
-abbrev pub held_tasks : Option Setting → List (List ℕ)
+abbrev pub held_tasks : Option (Setting ℕ) → List (List ℕ)
 held_tasks (Some (Held value)) = tasks_of value
 held_tasks (Some (Followed source)) = []
 held_tasks None = []
@@ -98,10 +98,10 @@ module _ {M F Z S : Type 0} (meanings : Meanings M F Z S) (nodes : List (Express
   HasTasks entry = (tasks : List (List ℕ)) × (produced_by meanings nodes entry ≡ Some (produced.Tasks tasks)) × AllByRecursion Good tasks
 
   -- the tasks of an expression whose rule reads these
-  abbrev now : Rule Produced → Reading Produced
+  abbrev now : Rule ℕ (Produced ℕ) → Reading ℕ (Produced ℕ)
   now r = reading (answer (carriers meanings nodes)) r
 
-  Settled : Rule Produced → Type 0
+  Settled : Rule ℕ (Produced ℕ) → Type 0
   Settled r = (tasks : List (List ℕ)) × (now r ≡ Settles (produced.Tasks tasks)) × AllByRecursion Good tasks
 
   carried : (operand : ℕ) → HasTasks operand → Settled (carry operand)
@@ -109,7 +109,7 @@ module _ {M F Z S : Type 0} (meanings : Meanings M F Z S) (nodes : List (Express
   carried operand has = (has.0, after_is operand (λ a. now (Answers a)) (answer (carriers meanings nodes) operand) (Some (produced.Tasks has.0)) has.1, has.2)
 
   module _ (f : ℕ → Option Outcome) (right : (entry : ℕ) (v : Value) → f entry ≡ Some (Given v) → HasTasks entry) (known : (entry : ℕ) (a : Outcome) → f entry ≡ Some a → value_of meanings nodes entry ≡ Some a) where
-    property_tasks : (setting : Option Setting) (convention : Option ℕ) (v : Value) → AllByRecursion Good (held_tasks setting) → reading f (property_rule setting convention) ≡ Settles (Given v) → Settled (carry_property setting convention)
+    property_tasks : (setting : Option (Setting ℕ)) (convention : Option ℕ) (v : Value) → AllByRecursion Good (held_tasks setting) → reading f (property_rule setting convention) ≡ Settles (Given v) → Settled (carry_property setting convention)
     unfolding Settled
     property_tasks (Some (Held value)) convention v held e = (_, refl, held)
     property_tasks (Some (Followed source)) convention v held e = carried source (right source v (followed_operand f source v e))
@@ -156,7 +156,7 @@ module _ {M F Z S : Type 0} (meanings : Meanings M F Z S) (nodes : List (Express
     chosen_good chosen v (Some place) is e = let found = placed (is_output chosen) nodes place is in output_good chosen found.0 (good place found.0 found.1) found.2
 
     chosen_has : (source : ℕ) (call : Called F) (w v : Value) (reply : Result (Option Chosen) Refusal) → value_of meanings nodes source ≡ Some (Given w)
-        → meaning_of meanings.flat_map call.function w call.arguments ≡ reply → reading f (chosen_rule nodes call.name reply) ≡ Settles (Given v)
+        → meaning_of meanings.flat_map call.function w call.arguments ≡ reply → reading f (chosen_rule (output_place nodes) call.name reply) ≡ Settles (Given v)
         → Settled (Answers (choose_tasks meanings source call (value_of meanings nodes source)))
     unfolding Settled
     chosen_has source call w v (Ok (Some chosen)) has meant e =

@@ -15,7 +15,8 @@ use Rattle.std.specs.Prelude.{Some, slice_get, slice_index, ◌⊎◌}
 use Rattle.std.specs.declared.cmp.Ordering.{Ordering}
 use Rattle.std.specs.declared.cmp.Ordering.TheVariants.{Less, Equal, Greater}
 use Rattle.gb_provider.specs.Answers.{RunsInto}
-use Rattle.gb_provider.specs.Circle.{IsCircle, awaited_after}
+use Rattle.gb_provider.proofs.CircleLemmas.{IsIndexedCircle, circle_by_index}
+use Rattle.gb_provider.specs.Circle.{awaited_after}
 use Rattle.gb_provider.specs.Meanings.{Meanings}
 use Rattle.gb_provider.specs.Names.{IsLeastRound, names_of, names_on, names_order, round_from}
 use Rattle.gb_provider.specs.Rounds.{Rule, and_then, next_awaited}
@@ -131,7 +132,7 @@ different_turned x xs different i j less below same =
           (sym (get_or-append_seam xs x [] 0) ∙ ap (slice_index (xs ++ x ∷ [])) (sym last) ∙ sym same ∙ get_or-append xs (x ∷ []) 0 i (omega (arith, less, last)))
     ]
 
-module _ {A : Type 0} (rules : List (Rule A)) where
+module _ {A : Type 0} (rules : List (Rule ℕ A)) where
   -- each awaits the one after it, and the last of them awaits this one
   abbrev pub AwaitsThrough : ℕ → List ℕ → ℕ → Type 0
   AwaitsThrough x [] last = next_awaited rules x ≡ Some last
@@ -155,7 +156,7 @@ module _ {A : Type 0} (rules : List (Rule A)) where
             (ap (λ k. next_awaited rules (slice_index (x ∷ y ∷ ys) k)) at ∙ closed),
       )
 
-  pub ring_of : (entry : ℕ) (circle : List ℕ) → IsCircle rules entry circle → IsRing circle
+  pub ring_of : (entry : ℕ) (circle : List ℕ) → IsIndexedCircle rules entry circle → IsRing circle
   ring_of entry [] is = absurd (let some = is.some in omega (arith, some))
   ring_of entry (x ∷ xs) is = (leads_of x xs x is.next is.closed, is.different)
 
@@ -227,21 +228,23 @@ module _ {M F Z S : Type 0} (meanings : Meanings M F Z S) (nodes : List (Express
   -- an expression runs into a circle under the same names, however the circle is found
   runs_into_one : (a b : List (List ℕ)) → RunsInto meanings nodes entry a → RunsInto meanings nodes entry b → a ≡ b
   runs_into_one a b one other =
-      let s = one.1.reached.0 in
-      let t = other.1.reached.0 in
-      let ring = ring_of (rules meanings nodes) entry one.0 one.1 in
-      let ring' = ring_of (rules meanings nodes) entry other.0 other.1 in
+      let at = circle_by_index (rules meanings nodes) entry one.0 one.1 in
+      let at' = circle_by_index (rules meanings nodes) entry other.0 other.1 in
+      let s = at.reached.0 in
+      let t = at'.reached.0 in
+      let ring = ring_of (rules meanings nodes) entry one.0 at in
+      let ring' = ring_of (rules meanings nodes) entry other.0 at' in
       let least = least_of_all (names_on nodes one.0) a one.2 in
       let least' = least_of_all (names_on nodes other.0) b other.2 in
       elim (cases_lt s t) [
         | inl less ↦
             let count : t - s + s ≡ t = omega (arith, less) in
-            one_way (rules meanings nodes) nodes entry (t - s) s one.0 other.0 a b ring ring' one.1.reached.1
-            (ap (λ k. awaited_after (rules meanings nodes) k entry) count ∙ other.1.reached.1) least least'
+            one_way (rules meanings nodes) nodes entry (t - s) s one.0 other.0 a b ring ring' at.reached.1
+            (ap (λ k. awaited_after (rules meanings nodes) k entry) count ∙ at'.reached.1) least least'
         | inr more ↦
             let count : s - t + t ≡ s = omega (arith, more) in
-            sym (one_way (rules meanings nodes) nodes entry (s - t) t other.0 one.0 b a ring' ring other.1.reached.1
-            (ap (λ k. awaited_after (rules meanings nodes) k entry) count ∙ one.1.reached.1) least' least)
+            sym (one_way (rules meanings nodes) nodes entry (s - t) t other.0 one.0 b a ring' ring at'.reached.1
+            (ap (λ k. awaited_after (rules meanings nodes) k entry) count ∙ at.reached.1) least' least)
       ]
 
 module _ {M F Z S A : Type 0} (tables : Tables M F Z S A) (source : Source) (entry : ℕ) where

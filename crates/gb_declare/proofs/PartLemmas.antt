@@ -4,11 +4,12 @@ use Rattle.std.specs.Prelude.{Option, Some, None, slice_get, ◌⊎◌}
 use Rattle.std.proofs.lemmas.Option.{slice_get_cases}
 use Rattle.gb_provider.proofs.RoundsLemmas.{after_is, settled_is, answer_found, none_bounded}
 use Rattle.gb_provider.specs.Rounds.{Rule, Answers, Reads, after_operand, reading, settled, and_then, answer_after, answer}
+use Rattle.gb_provider.specs.declared.evaluation.Reading.{Reading}
 use Rattle.gb_provider.specs.declared.evaluation.Reading.TheVariants.{Settles}
 use Rattle.gb_declare.specs.Parts.{IsLike, ArePart, PartsAnswer, PartsAreEndless}
 
 module _ {A : Type 0} where
-  same_settled : (a b : A) → Settles a ≡ Settles b → a ≡ b
+  same_settled : (a b : A) → ◌≡◌ {A = Reading ℕ A} (Settles a) (Settles b) → a ≡ b
   same_settled a b e = cc
 
   same_answer : (a b : A) → Some a ≡ Some b → a ≡ b
@@ -32,11 +33,11 @@ module _ {A : Type 0} (size : ℕ) (number : ℕ → ℕ) (Pending : A → Type 
   Covered = (entry : ℕ) (b : A) → entry < size → g (number entry) ≡ Some b → (a : A) × (f entry ≡ Some a)
 
   -- a rule that passes on a pending result ends with it
-  passed_on : (next : A → Rule A) (b : A) → next b ≡ Answers b → reading f (next b) ≡ Settles b
+  passed_on : (next : A → Rule ℕ A) (b : A) → next b ≡ Answers b → reading f (next b) ≡ Settles b
   passed_on next b passes = ap (reading f) passes
 
   module _ (answered : Answered) where
-    settled_at : (operand operand' : ℕ) (next next' : A → Rule A) (a : A) → IsLike size number Pending (Reads operand next) (Reads operand' next')
+    settled_at : (operand operand' : ℕ) (next next' : A → Rule ℕ A) (a : A) → IsLike size number Pending (Reads operand next) (Reads operand' next')
         → ((b : A) → IsLike size number Pending (next b) (next' b) → reading f (next b) ≡ Settles a → Pending a ⊎ (reading g (next' b) ≡ Settles a))
         → (o : Option A) → f operand ≡ o → after_operand operand (λ b. reading f (next b)) o ≡ Settles a
         → Pending a ⊎ (after_operand operand' (λ b. reading g (next' b)) (g operand') ≡ Settles a)
@@ -58,7 +59,7 @@ module _ {A : Type 0} (size : ℕ) (number : ℕ → ℕ) (Pending : A → Type 
 
     -- if a rule of the part ends with a result, the rule of the whole ends with the same, or the result is
     -- pending
-    pub settled_alike : (rule other : Rule A) (a : A) → IsLike size number Pending rule other → reading f rule ≡ Settles a → Pending a ⊎ (reading g other ≡ Settles a)
+    pub settled_alike : (rule other : Rule ℕ A) (a : A) → IsLike size number Pending rule other → reading f rule ≡ Settles a → Pending a ⊎ (reading g other ≡ Settles a)
     settled_alike (Answers b) other a (inl pending) e = inl (subst Pending (same_settled b a e) pending)
     settled_alike (Answers b) other a (inr same) e = inr (ap (reading g) same ∙ e)
     settled_alike (Reads operand next) (Answers b) a like e = absurd like
@@ -66,7 +67,7 @@ module _ {A : Type 0} (size : ℕ) (number : ℕ → ℕ) (Pending : A → Type 
         settled_at operand operand' next next' a like (λ b on. settled_alike (next b) (next' b) a on) (f operand) refl e
 
     module _ (covered : Covered) where
-      covered_at : (operand operand' : ℕ) (next next' : A → Rule A) (a : A) → IsLike size number Pending (Reads operand next) (Reads operand' next')
+      covered_at : (operand operand' : ℕ) (next next' : A → Rule ℕ A) (a : A) → IsLike size number Pending (Reads operand next) (Reads operand' next')
           → ((b : A) → IsLike size number Pending (next b) (next' b) → reading g (next' b) ≡ Settles a → (c : A) × (reading f (next b) ≡ Settles c))
           → (o p : Option A) → f operand ≡ o → g operand' ≡ p → after_operand operand' (λ b. reading g (next' b)) p ≡ Settles a
           → (c : A) × (after_operand operand (λ b. reading f (next b)) o ≡ Settles c)
@@ -88,16 +89,16 @@ module _ {A : Type 0} (size : ℕ) (number : ℕ → ℕ) (Pending : A → Type 
           ]
 
       -- where a rule of the whole ends, that of the part ends too
-      pub covered_alike : (rule other : Rule A) (a : A) → IsLike size number Pending rule other → reading g other ≡ Settles a → (c : A) × (reading f rule ≡ Settles c)
+      pub covered_alike : (rule other : Rule ℕ A) (a : A) → IsLike size number Pending rule other → reading g other ≡ Settles a → (c : A) × (reading f rule ≡ Settles c)
       covered_alike (Answers b) other a like e = (b, refl)
       covered_alike (Reads operand next) (Answers b) a like e = absurd like
       covered_alike (Reads operand next) (Reads operand' next') a like e =
           covered_at operand operand' next next' a like (λ b on. covered_alike (next b) (next' b) a on) (f operand) (g operand') refl refl e
 
-module _ {A : Type 0} (number : ℕ → ℕ) (Pending : A → Type 0) (part whole : List (Rule A)) (are : ArePart number Pending part whole) where
+module _ {A : Type 0} (number : ℕ → ℕ) (Pending : A → Type 0) (part whole : List (Rule ℕ A)) (are : ArePart number Pending part whole) where
   module _ (f g : ℕ → Option A) (answered : Answered (length part) number Pending f g) where
     -- one round preserves it
-    next_answered : (entry : ℕ) (a : A) (o : Option (Rule A)) → slice_get part entry ≡ o → and_then (λ rule. settled (reading f rule)) o ≡ Some a
+    next_answered : (entry : ℕ) (a : A) (o : Option (Rule ℕ A)) → slice_get part entry ≡ o → and_then (λ rule. settled (reading f rule)) o ≡ Some a
         → Pending a ⊎ (and_then (λ rule. settled (reading g rule)) (slice_get whole (number entry)) ≡ Some a)
     next_answered entry a None is e = cc
     next_answered entry a (Some rule) is e =
@@ -107,7 +108,7 @@ module _ {A : Type 0} (number : ℕ → ℕ) (Pending : A → Type 0) (part whol
           | inr settles ↦ inr (ap (and_then (λ r. settled (reading g r))) found.1 ∙ ap settled settles)
         ]
 
-    next_covered : Covered (length part) number Pending f g → (entry : ℕ) (b : A) (o : Option (Rule A)) → slice_get part entry ≡ o → entry < length part
+    next_covered : Covered (length part) number Pending f g → (entry : ℕ) (b : A) (o : Option (Rule ℕ A)) → slice_get part entry ≡ o → entry < length part
         → and_then (λ rule. settled (reading g rule)) (slice_get whole (number entry)) ≡ Some b → (a : A) × (and_then (λ rule. settled (reading f rule)) o ≡ Some a)
     next_covered covered entry b None is within e = absurd (past_end part entry within is)
     next_covered covered entry b (Some rule) is within e =

@@ -10,18 +10,18 @@ use Rattle.gb_declare.specs.Parts.{IsLike, ArePart}
 use Rattle.gb_declare.proofs.PartLemmas.{part_answers, part_is_endless}
 
 module _ {A : Type 0} where
-  waits_is : (r : Reading A) (operand : ℕ) → awaited r ≡ Some operand → r ≡ Waits operand
+  waits_is : (r : Reading ℕ A) (operand : ℕ) → awaited r ≡ Some operand → r ≡ Waits operand
   waits_is (Settles a) operand e = cc
   waits_is (Waits s) operand e = cc
 
-module _ {A : Type 0} (number : ℕ → ℕ) (Pending : A → Type 0) (part whole : List (Rule A)) (are : ArePart number Pending part whole) where
+module _ {A : Type 0} (number : ℕ → ℕ) (Pending : A → Type 0) (part whole : List (Rule ℕ A)) (are : ArePart number Pending part whole) where
   f : ℕ → Option A
   f = answer part
 
   g : ℕ → Option A
   g = answer whole
 
-  awaits_at : (operand operand' : ℕ) (next next' : A → Rule A) (s : ℕ) → IsLike (length part) number Pending (Reads operand next) (Reads operand' next')
+  awaits_at : (operand operand' : ℕ) (next next' : A → Rule ℕ A) (s : ℕ) → IsLike (length part) number Pending (Reads operand next) (Reads operand' next')
       → ((b : A) → IsLike (length part) number Pending (next b) (next' b) → reading (answer part) (next b) ≡ Waits s → reading (answer whole) (next' b) ≡ Waits (number s))
       → (o : Option A) → answer part operand ≡ o → after_operand operand (λ b. reading (answer part) (next b)) o ≡ Waits s
       → after_operand operand' (λ b. reading (answer whole) (next' b)) (answer whole operand') ≡ Waits (number s)
@@ -30,7 +30,7 @@ module _ {A : Type 0} (number : ℕ → ℕ) (Pending : A → Type 0) (part whol
       let none = part_is_endless number Pending part whole are operand like.0 was in
       after_is operand' (λ c. reading (answer whole) (next' c)) (answer whole operand') None (ap (answer whole) like.1 ∙ none) ∙ ap Waits (like.1 ∙ ap number same)
   awaits_at operand operand' next next' s like ih (Some b) was e =
-      let out : Pending b → ⊥ = λ pending. (let clash : Settles b ≡ Waits s = sym (ap (reading (answer part)) (like.2 b pending)) ∙ e in cc) in
+      let out : Pending b → ⊥ = λ pending. (let clash : ◌≡◌ {A = Reading ℕ A} (Settles b) (Waits s) = sym (ap (reading (answer part)) (like.2 b pending)) ∙ e in cc) in
       elim (part_answers number Pending part whole are operand b was) [
         | inl pending ↦ absurd (out pending)
         | inr known ↦
@@ -41,13 +41,13 @@ module _ {A : Type 0} (number : ℕ → ℕ) (Pending : A → Type 0) (part whol
       ]
 
   -- what a rule waits for
-  awaits_alike : (rule other : Rule A) (s : ℕ) → IsLike (length part) number Pending rule other → reading (answer part) rule ≡ Waits s → reading (answer whole) other ≡ Waits (number s)
+  awaits_alike : (rule other : Rule ℕ A) (s : ℕ) → IsLike (length part) number Pending rule other → reading (answer part) rule ≡ Waits s → reading (answer whole) other ≡ Waits (number s)
   awaits_alike (Answers b) other s like e = cc
   awaits_alike (Reads operand next) (Answers b) s like e = absurd like
   awaits_alike (Reads operand next) (Reads operand' next') s like e =
       awaits_at operand operand' next next' s like (λ b on. awaits_alike (next b) (next' b) s on) (answer part operand) refl e
 
-  next_at : (entry s : ℕ) (o : Option (Rule A)) → slice_get part entry ≡ o → and_then (λ rule. awaited (reading (answer part) rule)) o ≡ Some s → next_awaited whole (number entry) ≡ Some (number s)
+  next_at : (entry s : ℕ) (o : Option (Rule ℕ A)) → slice_get part entry ≡ o → and_then (λ rule. awaited (reading (answer part) rule)) o ≡ Some s → next_awaited whole (number entry) ≡ Some (number s)
   next_at entry s None is e = cc
   next_at entry s (Some rule) is e =
       let found = are.like entry rule is in

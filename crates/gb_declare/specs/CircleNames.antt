@@ -9,7 +9,7 @@ use Rattle.gb_provider.specs.Rules.{rules}
 use Rattle.gb_provider.specs.declared.expression.Expression.{Expression}
 
 -- The entries on the path from one: itself, the one that it awaits, and so on, at most `count` of them.
-abbrev pub way_from : {A : Type 0} → List (Rule A) → ℕ → Option ℕ → List ℕ
+abbrev pub way_from : {A : Type 0} → List (Rule ℕ A) → ℕ → Option ℕ → List ℕ
 way_from rules zero entry = []
 way_from rules (suc count) None = []
 way_from rules (suc count) (Some entry) = entry ∷ way_from rules count (next_awaited rules entry)
@@ -21,7 +21,7 @@ until_again (first ∷ others) = first ∷ take_while (λ other. not (other == f
 
 -- After as many steps as there are entries the path is on the circle, if it ever reaches one. After as many
 -- more it has gone around the circle.
-abbrev pub circle_from : {A : Type 0} → List (Rule A) → ℕ → List ℕ
+abbrev pub circle_from : {A : Type 0} → List (Rule ℕ A) → ℕ → List ℕ
 circle_from rules entry =
     let count = length rules in until_again (way_from rules count (awaited_after rules count entry))
 

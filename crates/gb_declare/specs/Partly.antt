@@ -16,7 +16,7 @@ use Rattle.gb_provider.specs.declared.fault.Chosen.{Chosen}
 use Rattle.gb_provider.specs.declared.fault.ValueFault.TheVariants.{Unrealised}
 
 module _ (number : ℕ → ℕ) where
-  abbrev pub renamed_setting : Setting → Setting
+  abbrev pub renamed_setting : Setting ℕ → Setting ℕ
   renamed_setting (Held value) = Held value
   renamed_setting (Followed source) = Followed (number source)
 

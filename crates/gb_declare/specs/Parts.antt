@@ -6,7 +6,7 @@ module _ {A : Type 0} (size : ℕ) (number : ℕ → ℕ) (Pending : A → Type 
   -- Compares a rule of the part with a rule of the whole. Either it has the same result, unless the result is
   -- pending; or it reads the same operand, by its number in the whole, passes on a pending result, and
   -- continues in the same way with any other.
-  abbrev pub IsLike : Rule A → Rule A → Type 0
+  abbrev pub IsLike : Rule ℕ A → Rule ℕ A → Type 0
   IsLike (Answers a) rule = Pending a ⊎ (rule ≡ Answers a)
   IsLike (Reads operand next) (Answers a) = ⊥
   IsLike (Reads operand next) (Reads operand' next') =
@@ -15,19 +15,19 @@ module _ {A : Type 0} (size : ℕ) (number : ℕ → ℕ) (Pending : A → Type 
 
 -- each rule of the part is in the whole, by its number there
 pub record ArePart {A : Type 0} (number : ℕ → ℕ) (Pending : A → Type 0)
-    (part whole : List (Rule A)) : Type 0 where
-  pub like : (entry : ℕ) (rule : Rule A) → slice_get part entry ≡ Some rule →
-      (other : Rule A) × (slice_get whole (number entry) ≡ Some other)
+    (part whole : List (Rule ℕ A)) : Type 0 where
+  pub like : (entry : ℕ) (rule : Rule ℕ A) → slice_get part entry ≡ Some rule →
+      (other : Rule ℕ A) × (slice_get whole (number entry) ≡ Some other)
       × IsLike (length part) number Pending rule other
 
 -- a result in the part is the result in the whole, unless it is pending
 abbrev pub PartsAnswer : Type 0 → Type 1
 PartsAnswer A =
-    (number : ℕ → ℕ) (Pending : A → Type 0) (part whole : List (Rule A)) → ArePart number Pending part whole →
+    (number : ℕ → ℕ) (Pending : A → Type 0) (part whole : List (Rule ℕ A)) → ArePart number Pending part whole →
     (entry : ℕ) (a : A) → answer part entry ≡ Some a → Pending a ⊎ (answer whole (number entry) ≡ Some a)
 
 -- what never has a result in the part never has one in the whole
 abbrev pub PartsAreEndless : Type 0 → Type 1
 PartsAreEndless A =
-    (number : ℕ → ℕ) (Pending : A → Type 0) (part whole : List (Rule A)) → ArePart number Pending part whole →
+    (number : ℕ → ℕ) (Pending : A → Type 0) (part whole : List (Rule ℕ A)) → ArePart number Pending part whole →
     (entry : ℕ) → entry < length part → answer part entry ≡ None → answer whole (number entry) ≡ None

@@ -135,7 +135,7 @@ abbrev pub answered : Function → Result Bool Refusal → Result Bool Trouble
 answered test (Ok truth) = Ok truth
 answered test (Err refusal) = Err (Plain (refused test.name refusal))
 
-abbrev pub tasks_from : Option Produced → List Path
+abbrev pub tasks_from : Option (Produced ℕ) → List Path
 tasks_from (Some (produced.Tasks tasks)) = tasks
 tasks_from other = []
 

@@ -6,6 +6,7 @@ use Rattle.gb_core.specs.declared.value.Value.{Value}
 use Rattle.gb_core.specs.declared.value.Value.TheVariants as values
 use Rattle.gb_provider.specs.Answers.{IsFault as IsFaultOf, IsGot, RunsInto, value_of}
 use Rattle.gb_provider.specs.Produced.{AreProducers, produced_by}
+use Rattle.gb_provider.specs.declared.produced.Produced.{Produced}
 use Rattle.gb_provider.specs.declared.produced.Produced.TheVariants as produced
 use Rattle.gb_provider.specs.Names.{IsLeastRound}
 use Rattle.gb_provider.specs.Meanings.{Meanings, meaning_of}
@@ -45,26 +46,26 @@ module _ {M F Z : Type 0} (nodes : List (Expression M F Z)) (x : ℕ) where
   abbrev Fine : ℕ → Type 0
   Fine s = (s < x) ⊎ (is_named (slice_get nodes s) ≡ true)
 
-  abbrev AllFine : Rule Outcome → Type 0
+  abbrev AllFine : Rule ℕ Outcome → Type 0
   AllFine (Answers a) = Unit {0}
   AllFine (Reads operand next) = Fine operand × ((a : Outcome) → AllFine (next a))
 
   module _ (f : ℕ → Option Outcome) where
-    after_fine : (operand : ℕ) (next : Outcome → Rule Outcome) (s : ℕ) → Fine operand → ((a : Outcome) → awaited (reading f (next a)) ≡ Some s → Fine s) → (o : Option Outcome)
+    after_fine : (operand : ℕ) (next : Outcome → Rule ℕ Outcome) (s : ℕ) → Fine operand → ((a : Outcome) → awaited (reading f (next a)) ≡ Some s → Fine s) → (o : Option Outcome)
         → awaited (after_operand operand (λ a. reading f (next a)) o) ≡ Some s → Fine s
     after_fine operand next s fine go_on None e = let same : operand ≡ s = cc in subst Fine same fine
     after_fine operand next s fine go_on (Some a) e = go_on a e
 
-    pub awaits_fine : (r : Rule Outcome) → AllFine r → (s : ℕ) → awaited (reading f r) ≡ Some s → Fine s
+    pub awaits_fine : (r : Rule ℕ Outcome) → AllFine r → (s : ℕ) → awaited (reading f r) ≡ Some s → Fine s
     awaits_fine (Answers a) fine s e = absurd (let no_way : ⊥ = cc in no_way)
     awaits_fine (Reads operand next) fine s e = after_fine operand next s fine.0 (λ a. awaits_fine (next a) (fine.1 a) s) (f operand) e
 
-  value_fine : (go_on : Value → Rule Outcome) → ((value : Value) → AllFine (go_on value)) → (a : Outcome) → AllFine (on_value go_on a)
+  value_fine : (go_on : Value → Rule ℕ Outcome) → ((value : Value) → AllFine (go_on value)) → (a : Outcome) → AllFine (on_value go_on a)
   value_fine go_on fine (outcomes.Given value) = fine value
   value_fine go_on fine outcomes.Absent = tt
   value_fine go_on fine (outcomes.Refused fault) = tt
 
-  text_fine : (go_on : List ℕ → Rule Outcome) (other : Rule Outcome) → ((text : List ℕ) → AllFine (go_on text)) → AllFine other → (value : Value) → AllFine (on_text go_on other value)
+  text_fine : (go_on : List ℕ → Rule ℕ Outcome) (other : Rule ℕ Outcome) → ((text : List ℕ) → AllFine (go_on text)) → AllFine other → (value : Value) → AllFine (on_text go_on other value)
   text_fine go_on other fine rest (values.Text text) = fine text
   text_fine go_on other fine rest (values.Flag flag) = rest
   text_fine go_on other fine rest (values.List texts) = rest
@@ -97,7 +98,7 @@ module _ {M F Z : Type 0} (nodes : List (Expression M F Z)) (x : ℕ) where
       let at = placed_at (is_output chosen) nodes k is in
       (inr (ap is_named at.2 ∙ output_named chosen at.0 (find_passes (is_output chosen) nodes at.0 at.1)), λ a. tt)
 
-  chosen_fine : (function : List ℕ) (r : Result (Option Chosen) Refusal) → AllFine (chosen_rule nodes function r)
+  chosen_fine : (function : List ℕ) (r : Result (Option Chosen) Refusal) → AllFine (chosen_rule (output_place nodes) function r)
   chosen_fine function (Ok (Some chosen)) = place_fine chosen (output_place nodes chosen) refl
   chosen_fine function (Ok None) = tt
   chosen_fine function (Err refusal) = tt
@@ -115,7 +116,7 @@ module _ {M F Z : Type 0} (nodes : List (Expression M F Z)) (x : ℕ) where
     fine_rule_of (Listed operands) unnamed within = list_fine false [] operands within
     fine_rule_of (Mapped source call) unnamed within = (inl within, value_fine (λ value. Answers (mapped call.name (meaning_of means.map call.function value call.arguments))) (λ value. tt))
     fine_rule_of (FlatMapped source call) unnamed within =
-        (inl within, value_fine (λ value. chosen_rule nodes call.name (meaning_of means.flat_map call.function value call.arguments)) (λ value. chosen_fine call.name (meaning_of means.flat_map call.function value call.arguments)))
+        (inl within, value_fine (λ value. chosen_rule (output_place nodes) call.name (meaning_of means.flat_map call.function value call.arguments)) (λ value. chosen_fine call.name (meaning_of means.flat_map call.function value call.arguments)))
     fine_rule_of (Zipped left right call) unnamed within = (
       inl within.0,
       value_fine (λ a. Reads right (on_value (λ b. Answers (zipped call.name (meaning_of means.zip call.function a b call.arguments)))))
@@ -147,10 +148,10 @@ module _ {M F Z S A : Type 0} (tables : Tables M F Z S A) (source : Source) (nam
 
   -- ---- Circles
 
-  abbrev the_rules : List (Rule Outcome)
+  abbrev the_rules : List (Rule ℕ Outcome)
   the_rules = rules tables.means nodes
 
-  rule_there : (s : ℕ) (o : Option (Rule Outcome)) → and_then (λ r. awaited (reading (answer the_rules) r)) o ≡ Some s → (r : Rule Outcome) × (o ≡ Some r)
+  rule_there : (s : ℕ) (o : Option (Rule ℕ Outcome)) → and_then (λ r. awaited (reading (answer the_rules) r)) o ≡ Some s → (r : Rule ℕ Outcome) × (o ≡ Some r)
   rule_there s None e = cc
   rule_there s (Some r) e = (r, refl)
 
@@ -215,11 +216,11 @@ only_memory means nodes entry value fault are =
     let has = given_has_tasks means nodes entry value.0 value.1 in of has fault are
   where
     of : (tasks : List (List ℕ)) × (produced_by means nodes entry ≡ Some (produced.Tasks tasks)) → (fault : ProviderFault) → AreProducers means nodes entry (Err fault) → fault ≡ providers.OutOfMemory
-    of has (providers.Circular names) (inl never) = let both : None ≡ Some (produced.Tasks has.0) = sym never.0 ∙ has.1 in absurd (let no_way : ⊥ = cc in no_way)
-    of has (providers.Circular names) (inr (chooser, is, rest)) = let both : Some (produced.Endless chooser) ≡ Some (produced.Tasks has.0) = sym is ∙ has.1 in absurd (let no_way : ⊥ = cc in no_way)
+    of has (providers.Circular names) (inl never) = let both : ◌≡◌ {A = Option (Produced ℕ)} None (Some (produced.Tasks has.0)) = sym never.0 ∙ has.1 in absurd (let no_way : ⊥ = cc in no_way)
+    of has (providers.Circular names) (inr (chooser, is, rest)) = let both : ◌≡◌ {A = Option (Produced ℕ)} (Some (produced.Endless chooser)) (Some (produced.Tasks has.0)) = sym is ∙ has.1 in absurd (let no_way : ⊥ = cc in no_way)
     of has (providers.Step fault) are = absurd are
     of has providers.NoValue are = absurd are
-    of has (providers.Value fault) are = let both : Some (produced.Refused fault) ≡ Some (produced.Tasks has.0) = sym are ∙ has.1 in absurd (let no_way : ⊥ = cc in no_way)
+    of has (providers.Value fault) are = let both : ◌≡◌ {A = Option (Produced ℕ)} (Some (produced.Refused fault)) (Some (produced.Tasks has.0)) = sym are ∙ has.1 in absurd (let no_way : ⊥ = cc in no_way)
     of has providers.OutOfMemory are = refl
 
 pub of_get : {M F Z S : Type 0} (means : Meanings M F Z S) (nodes : List (Expression M F Z)) (entry : ℕ) (fault : ProviderFault) → IsFaultOf means nodes entry fault → IsOfGet fault

@@ -27,21 +27,21 @@ use Rattle.gb_provider.proofs.RoundsLemmas.{settled_is}
 
 module _ {A : Type 0} (P : A → Type 0) where
   -- each answer of the rule is fit, as long as those of its operands are
-  abbrev Keeps : Rule A → Type 0
+  abbrev Keeps : Rule ℕ A → Type 0
   Keeps (Answers a) = P a
   Keeps (Reads operand next) = (a : A) → P a → Keeps (next a)
 
   module _ (f : ℕ → Option A) (fit : (e : ℕ) (a : A) → f e ≡ Some a → P a) where
-    kept_at : (operand : ℕ) (next : A → Rule A) (a : A) → ((b : A) → P b → reading f (next b) ≡ Settles a → P a) → (o : Option A) → f operand ≡ o → after_operand operand (λ b. reading f (next b)) o ≡ Settles a → P a
+    kept_at : (operand : ℕ) (next : A → Rule ℕ A) (a : A) → ((b : A) → P b → reading f (next b) ≡ Settles a → P a) → (o : Option A) → f operand ≡ o → after_operand operand (λ b. reading f (next b)) o ≡ Settles a → P a
     kept_at operand next a ih None was e = cc
     kept_at operand next a ih (Some b) was e = ih b (fit operand b was) e
 
-    kept : (rule : Rule A) (a : A) → Keeps rule → reading f rule ≡ Settles a → P a
+    kept : (rule : Rule ℕ A) (a : A) → Keeps rule → reading f rule ≡ Settles a → P a
     kept (Answers b) a keeps e = let same : b ≡ a = cc in subst P same keeps
     kept (Reads operand next) a keeps e = kept_at operand next a (λ b b_fit. kept (next b) a (keeps b b_fit)) (f operand) refl e
 
-  module _ (rules : List (Rule A)) (all : (e : ℕ) (rule : Rule A) → slice_get rules e ≡ Some rule → Keeps rule) where
-    round_kept : (n e : ℕ) (a : A) → ((i : ℕ) (b : A) → answer_after rules n i ≡ Some b → P b) → (o : Option (Rule A)) → slice_get rules e ≡ o → and_then (λ rule. settled (reading (answer_after rules n) rule)) o ≡ Some a → P a
+  module _ (rules : List (Rule ℕ A)) (all : (e : ℕ) (rule : Rule ℕ A) → slice_get rules e ≡ Some rule → Keeps rule) where
+    round_kept : (n e : ℕ) (a : A) → ((i : ℕ) (b : A) → answer_after rules n i ≡ Some b → P b) → (o : Option (Rule ℕ A)) → slice_get rules e ≡ o → and_then (λ rule. settled (reading (answer_after rules n) rule)) o ≡ Some a → P a
     round_kept n e a before None is answered = cc
     round_kept n e a before (Some rule) is answered = kept (answer_after rules n) before rule a (all e rule is) (settled_is (reading (answer_after rules n) rule) a answered)
 
@@ -52,18 +52,18 @@ module _ {A : Type 0} (P : A → Type 0) where
 
 module _ {M F Z S : Type 0} (meanings : Meanings M F Z S) (nodes : List (Expression M F Z)) where
   -- an answer that names a chooser names one whose value never has an answer
-  abbrev IsFit : Produced → Type 0
+  abbrev IsFit : Produced ℕ → Type 0
   IsFit (Tasks tasks) = Unit {0}
   IsFit (Refused fault) = Unit {0}
   IsFit (Endless chooser) = (chooser < length nodes) × (value_of meanings nodes chooser ≡ None)
 
-  property_fit : (setting : Option Setting) (convention : Option ℕ) → Keeps IsFit (carry_property setting convention)
+  property_fit : (setting : Option (Setting ℕ)) (convention : Option ℕ) → Keeps IsFit (carry_property setting convention)
   property_fit (Some (Held value)) convention = tt
   property_fit (Some (Followed source)) convention = λ a fit. fit
   property_fit None (Some source) = λ a fit. fit
   property_fit None None = tt
 
-  on_fit : (go_on : List (List ℕ) → Rule Produced) → ((more : List (List ℕ)) → Keeps IsFit (go_on more)) → (a : Produced) → IsFit a → Keeps IsFit (on_tasks go_on a)
+  on_fit : (go_on : List (List ℕ) → Rule ℕ (Produced ℕ)) → ((more : List (List ℕ)) → Keeps IsFit (go_on more)) → (a : Produced ℕ) → IsFit a → Keeps IsFit (on_tasks go_on a)
   on_fit go_on fits (Tasks more) fit = fits more
   on_fit go_on fits (Refused fault) fit = tt
   on_fit go_on fits (Endless chooser) fit = fit
@@ -100,7 +100,7 @@ module _ {M F Z S : Type 0} (meanings : Meanings M F Z S) (nodes : List (Express
   carrier_fit (OrElse left right) within = side_fit left right within.0 (value_of meanings nodes left) refl
 
   module _ (within : AreWithin nodes) where
-    rule_fit : (o : Option (Expression M F Z)) (e : ℕ) (rule : Rule Produced) → slice_get nodes e ≡ o → option_map (carrier meanings nodes) o ≡ Some rule → Keeps IsFit rule
+    rule_fit : (o : Option (Expression M F Z)) (e : ℕ) (rule : Rule ℕ (Produced ℕ)) → slice_get nodes e ≡ o → option_map (carrier meanings nodes) o ≡ Some rule → Keeps IsFit rule
     rule_fit None e rule is there = cc
     rule_fit (Some node) e rule is there =
         let same : carrier meanings nodes node ≡ rule = cc in

@@ -19,7 +19,7 @@ use Rattle.gb_provider.specs.Circle.{IsCircle}
 use Rattle.gb_provider.specs.Rounds.{answer}
 use Rattle.gb_provider.specs.Search.{IsEvaluated, IsLook, IsPathEnd, known, known_answer}
 
-module _ {A : Type 0} (states now : List (State A)) (same : now ≡ states) (found : Reading A) (r : Rule A) (reads : found ≡ reading (known now) r) where
+module _ {A : Type 0} (states now : List (State A)) (same : now ≡ states) (found : Reading ℕ A) (r : Rule ℕ A) (reads : found ≡ reading (known now) r) where
   reads_here : reading (known states) r ≡ found
   reads_here = ap (λ s. reading (known s) r) (sym same) ∙ sym reads
 
@@ -29,7 +29,7 @@ module _ {A : Type 0} (states now : List (State A)) (same : now ≡ states) (fou
   pub waits_is : (operand : ℕ) → found ≡ Waits operand → reading (known states) r ≡ Waits operand
   waits_is operand is = reads_here ∙ is
 
-module _ {A : Type 0} (rules first : List (Rule A)) (kept : rules ≡ first) (states now : List (State A)) (same : now ≡ states) (at : ℕ) (found : Reading A) (look : IsLook rules (known now) at found) where
+module _ {A : Type 0} (rules first : List (Rule ℕ A)) (kept : rules ≡ first) (states now : List (State A)) (same : now ≡ states) (at : ℕ) (found : Reading ℕ A) (look : IsLook rules (known now) at found) where
   -- the rule that was evaluated
   pub looked_there : slice_get first at ≡ Some look.0
   looked_there = ap (λ r. slice_get r at) (sym kept) ∙ look.1
@@ -50,12 +50,12 @@ module _ {M F Z S : Type 0} (meanings : Meanings M F Z S) (nodes : List (express
       ∙ ap (option_map (rule meanings nodes)) (slice_get_read nodes (length nodes) at node refl below is)
 
 module _ {A : Type 0} (f : ℕ → Option A) where
-  none_at : (operand : ℕ) (next : A → Rule A) (s : ℕ) → ((b : A) → reading f (next b) ≡ Waits s → f s ≡ None) → (o : Option A) → f operand ≡ o → after_operand operand (λ b. reading f (next b)) o ≡ Waits s → f s ≡ None
+  none_at : (operand : ℕ) (next : A → Rule ℕ A) (s : ℕ) → ((b : A) → reading f (next b) ≡ Waits s → f s ≡ None) → (o : Option A) → f operand ≡ o → after_operand operand (λ b. reading f (next b)) o ≡ Waits s → f s ≡ None
   none_at operand next s ih None was e = let same : operand ≡ s = cc in ap f (sym same) ∙ was
   none_at operand next s ih (Some b) was e = ih b e
 
   -- a rule waits for an operand that has no answer
-  pub awaited_none : (r : Rule A) (s : ℕ) → reading f r ≡ Waits s → f s ≡ None
+  pub awaited_none : (r : Rule ℕ A) (s : ℕ) → reading f r ≡ Waits s → f s ≡ None
   awaited_none (Answers b) s e = cc
   awaited_none (Reads operand next) s e = none_at operand next s (λ b. awaited_none (next b) s) (f operand) refl e
 
@@ -74,7 +74,7 @@ some_known None some = absurd (some refl)
 some_known (Some a) some = (a, refl)
 
 -- an evaluation that ends with the end of its path, which is a circle
-pub circle_reported : {A : Type 0} (rules : List (Rule A)) (entry : ℕ) (states : List (State A)) (path : List ℕ) (operand : ℕ) (result : Result (Option (Vec ℕ Global)) AllocError) → ((k : ℕ) → k < length path → slice_index path k ≡ operand → (answer rules entry ≡ None) × IsCircle rules entry (drop k path)) → IsPathEnd path operand result → IsEvaluated rules entry states result
+pub circle_reported : {A : Type 0} (rules : List (Rule ℕ A)) (entry : ℕ) (states : List (State A)) (path : List ℕ) (operand : ℕ) (result : Result (Option (Vec ℕ Global)) AllocError) → ((k : ℕ) → k < length path → slice_index path k ≡ operand → (answer rules entry ≡ None) × IsCircle rules entry (drop k path)) → IsPathEnd path operand result → IsEvaluated rules entry states result
 circle_reported rules entry states path operand (Ok (Some circle)) all ends =
     let found = all ends.0 ends.1 ends.2 in
     (found.0, rw ends.3 found.1)

@@ -24,10 +24,10 @@ use Rattle.gb_provider.proofs.RoundsLemmas.{after_is, answer_found, settled_is}
 use Rattle.gb_provider.proofs.SearchLemmas.{get_set_other}
 
 -- two tables that differ at one entry, which is not known
-module _ {A : Type 0} (old new : List (Rule A)) (same : length new ≡ length old) (changed : ℕ) (states : List (State A)) (unknown : known states changed ≡ None) (sound : IsSound old states)
-    (alike : (e : ℕ) (r : Rule A) → changed ≢ e → slice_get old e ≡ Some r → (s : Rule A) × (slice_get new e ≡ Some s) × ((f : ℕ → Option A) → reading f s ≡ reading f r)) where
+module _ {A : Type 0} (old new : List (Rule ℕ A)) (same : length new ≡ length old) (changed : ℕ) (states : List (State A)) (unknown : known states changed ≡ None) (sound : IsSound old states)
+    (alike : (e : ℕ) (r : Rule ℕ A) → changed ≢ e → slice_get old e ≡ Some r → (s : Rule ℕ A) × (slice_get new e ≡ Some s) × ((f : ℕ → Option A) → reading f s ≡ reading f r)) where
   module _ (n : ℕ) (before : (e : ℕ) (a b : A) → known states e ≡ Some b → answer_after old n e ≡ Some a → answer_after new n e ≡ Some a) where
-    stays_at : (operand : ℕ) (next : A → Rule A) (a b : A) → ((c : A) → reading (known states) (next c) ≡ Settles b → reading (answer_after old n) (next c) ≡ Settles a → reading (answer_after new n) (next c) ≡ Settles a)
+    stays_at : (operand : ℕ) (next : A → Rule ℕ A) (a b : A) → ((c : A) → reading (known states) (next c) ≡ Settles b → reading (answer_after old n) (next c) ≡ Settles a → reading (answer_after new n) (next c) ≡ Settles a)
         → (o p : Option A) → known states operand ≡ o → answer_after old n operand ≡ p
         → after_operand operand (λ c. reading (known states) (next c)) o ≡ Settles b → after_operand operand (λ c. reading (answer_after old n) (next c)) p ≡ Settles a
         → reading (answer_after new n) (Reads operand next) ≡ Settles a
@@ -41,7 +41,7 @@ module _ {A : Type 0} (old new : List (Rule A)) (same : length new ≡ length ol
         ∙ ih m (subst (λ c. reading (known states) (next c) ≡ Settles b) equal e) d
 
     -- a rule that settles on known answers settles alike
-    stays : (r : Rule A) (a b : A) → reading (known states) r ≡ Settles b → reading (answer_after old n) r ≡ Settles a → reading (answer_after new n) r ≡ Settles a
+    stays : (r : Rule ℕ A) (a b : A) → reading (known states) r ≡ Settles b → reading (answer_after old n) r ≡ Settles a → reading (answer_after new n) r ≡ Settles a
     stays (Answers c) a b e d = d
     stays (Reads operand next) a b e d = stays_at operand next a b (λ c. stays (next c) a b) (known states operand) (answer_after old n operand) refl refl e d
 
@@ -73,7 +73,7 @@ module _ {M F Z S : Type 0} (meanings : Meanings M F Z S) (nodes : List (Express
   same_count : length (rules meanings (set nodes at node)) ≡ length (rules meanings nodes)
   same_count = length-map (set nodes at node) (rule meanings (set nodes at node)) ∙ (length-set nodes at node ∙ sym (length-map nodes (rule meanings nodes)))
 
-  rule_alike : (e : ℕ) (r : Rule Outcome) → at ≢ e → slice_get (rules meanings nodes) e ≡ Some r → (s : Rule Outcome) × (slice_get (rules meanings (set nodes at node)) e ≡ Some s) × ((f : ℕ → Option Outcome) → reading f s ≡ reading f r)
+  rule_alike : (e : ℕ) (r : Rule ℕ Outcome) → at ≢ e → slice_get (rules meanings nodes) e ≡ Some r → (s : Rule ℕ Outcome) × (slice_get (rules meanings (set nodes at node)) e ≡ Some s) × ((f : ℕ → Option Outcome) → reading f s ≡ reading f r)
   rule_alike e r other is =
       let found = mapped_at (rule meanings nodes) nodes e r (slice_get nodes e) refl (sym (slice_get-map (rule meanings nodes) nodes e) ∙ is) in (
         rule meanings (set nodes at node) found.0,

@@ -31,17 +31,17 @@ use Rattle.gb_provider.proofs.RoundsLemmas.{answer_found, answered_within, later
 
 module _ {A : Type 0} (n : ℕ) where
   -- each operand that the rule may read is among the first n
-  abbrev ReadsWithin : Rule A → Type 0
+  abbrev ReadsWithin : Rule ℕ A → Type 0
   ReadsWithin (Answers a) = Unit {0}
   ReadsWithin (Reads operand next) = (operand < n) × ((a : A) → ReadsWithin (next a))
 
   module _ (f g : ℕ → Option A) (agree : (i : ℕ) → i < n → f i ≡ g i) where
-    after_agree : (next : A → Rule A) (operand : ℕ) → ((a : A) → reading f (next a) ≡ reading g (next a)) → (o : Option A) → after_operand operand (λ a. reading f (next a)) o ≡ after_operand operand (λ a. reading g (next a)) o
+    after_agree : (next : A → Rule ℕ A) (operand : ℕ) → ((a : A) → reading f (next a) ≡ reading g (next a)) → (o : Option A) → after_operand operand (λ a. reading f (next a)) o ≡ after_operand operand (λ a. reading g (next a)) o
     after_agree next operand ih None = refl
     after_agree next operand ih (Some a) = ih a
 
     -- such a rule is read alike where the first n answers are the same
-    reading_agree : (r : Rule A) → ReadsWithin r → reading f r ≡ reading g r
+    reading_agree : (r : Rule ℕ A) → ReadsWithin r → reading f r ≡ reading g r
     reading_agree (Answers a) within = refl
     reading_agree (Reads operand next) within =
         ap (after_operand operand (λ a. reading f (next a))) (agree operand within.0)
@@ -53,10 +53,10 @@ both_ways None (Some a) up down = sym (down a refl)
 both_ways (Some a) p up down = up a refl
 
 -- two tables of which the second begins with rules that are read as those of the first
-module _ {A : Type 0} (old new : List (Rule A)) (longer : length old ≤ length new)
-    (within : (e : ℕ) (r : Rule A) → slice_get old e ≡ Some r → ReadsWithin (length old) r)
-    (alike : (e : ℕ) (r : Rule A) → slice_get old e ≡ Some r → (s : Rule A) × (slice_get new e ≡ Some s) × ((f : ℕ → Option A) → reading f s ≡ reading f r)) where
-  rule_at : (e : ℕ) → e < length old → (r : Rule A) × (slice_get old e ≡ Some r)
+module _ {A : Type 0} (old new : List (Rule ℕ A)) (longer : length old ≤ length new)
+    (within : (e : ℕ) (r : Rule ℕ A) → slice_get old e ≡ Some r → ReadsWithin (length old) r)
+    (alike : (e : ℕ) (r : Rule ℕ A) → slice_get old e ≡ Some r → (s : Rule ℕ A) × (slice_get new e ≡ Some s) × ((f : ℕ → Option A) → reading f s ≡ reading f r)) where
+  rule_at : (e : ℕ) → e < length old → (r : Rule ℕ A) × (slice_get old e ≡ Some r)
   rule_at e below = elim (slice_get_cases old e).1 [ inl found ↦ (found.0, found.2) | inr past ↦ absurd (omega (arith, below, past.0)) ]
 
   same_after : (n e : ℕ) → e < length old → answer_after new n e ≡ answer_after old n e
@@ -98,15 +98,15 @@ mapped_at h xs i y (Some x) is found = (x, is, let same : h x ≡ y = cc in same
 
 -- two tables in which outputs have the same numbers
 module _ {M F Z S : Type 0} (meanings : Meanings M F Z S) (nodes new : List (Expression M F Z)) (same_place : (chosen : Chosen) → output_place new chosen ≡ output_place nodes chosen) where
-  same_choice : (function : List ℕ) (reply : Result (Option Chosen) Refusal) → chosen_rule new function reply ≡ chosen_rule nodes function reply
+  same_choice : (function : List ℕ) (reply : Result (Option Chosen) Refusal) → chosen_rule (output_place new) function reply ≡ chosen_rule (output_place nodes) function reply
   same_choice function (Ok (Some chosen)) = ap (output_rule chosen) (same_place chosen)
   same_choice function (Ok None) = refl
   same_choice function (Err refusal) = refl
 
   module _ (f : ℕ → Option Outcome) where
     flat_at : (source : ℕ) (call : Called F) (o : Option Outcome)
-        → after_operand source (λ a. reading f (on_value (λ value. chosen_rule new call.name (meaning_of meanings.flat_map call.function value call.arguments)) a)) o
-        ≡ after_operand source (λ a. reading f (on_value (λ value. chosen_rule nodes call.name (meaning_of meanings.flat_map call.function value call.arguments)) a)) o
+        → after_operand source (λ a. reading f (on_value (λ value. chosen_rule (output_place new) call.name (meaning_of meanings.flat_map call.function value call.arguments)) a)) o
+        ≡ after_operand source (λ a. reading f (on_value (λ value. chosen_rule (output_place nodes) call.name (meaning_of meanings.flat_map call.function value call.arguments)) a)) o
     flat_at source call None = refl
     flat_at source call (Some (Given value)) = ap (reading f) (same_choice call.name (meaning_of meanings.flat_map call.function value call.arguments))
     flat_at source call (Some Absent) = refl
@@ -124,7 +124,7 @@ module _ {M F Z S : Type 0} (meanings : Meanings M F Z S) (nodes new : List (Exp
     same_rule (OrElse left right) = refl
 
 module _ {M F Z S : Type 0} (meanings : Meanings M F Z S) (nodes : List (Expression M F Z)) where
-  property_within : (setting : Option Setting) (convention : Option ℕ) → SettingWithin (length nodes) setting → PlaceWithin (length nodes) convention → ReadsWithin (length nodes) (property_rule setting convention)
+  property_within : (setting : Option (Setting ℕ)) (convention : Option ℕ) → SettingWithin (length nodes) setting → PlaceWithin (length nodes) convention → ReadsWithin (length nodes) (property_rule setting convention)
   property_within (Some (Held value)) convention s p = tt
   property_within (Some (Followed source)) convention s p = (s, λ a. tt)
   property_within None (Some source) s p = (p, λ a. tt)
@@ -134,12 +134,12 @@ module _ {M F Z S : Type 0} (meanings : Meanings M F Z S) (nodes : List (Express
   output_within chosen (Some source) p = (p, λ a. tt)
   output_within chosen None p = tt
 
-  value_within : (go_on : Value → Rule Outcome) → ((value : Value) → ReadsWithin (length nodes) (go_on value)) → (a : Outcome) → ReadsWithin (length nodes) (on_value go_on a)
+  value_within : (go_on : Value → Rule ℕ Outcome) → ((value : Value) → ReadsWithin (length nodes) (go_on value)) → (a : Outcome) → ReadsWithin (length nodes) (on_value go_on a)
   value_within go_on all (Given value) = all value
   value_within go_on all Absent = tt
   value_within go_on all (Refused fault) = tt
 
-  text_within : (go_on : List ℕ → Rule Outcome) (other : Rule Outcome) → ((text : List ℕ) → ReadsWithin (length nodes) (go_on text)) → ReadsWithin (length nodes) other → (value : Value) → ReadsWithin (length nodes) (on_text go_on other value)
+  text_within : (go_on : List ℕ → Rule ℕ Outcome) (other : Rule ℕ Outcome) → ((text : List ℕ) → ReadsWithin (length nodes) (go_on text)) → ReadsWithin (length nodes) other → (value : Value) → ReadsWithin (length nodes) (on_text go_on other value)
   text_within go_on other all also (values.Text text) = all text
   text_within go_on other all also (values.Flag flag) = also
   text_within go_on other all also (values.List texts) = also
@@ -154,7 +154,7 @@ module _ {M F Z S : Type 0} (meanings : Meanings M F Z S) (nodes : List (Express
         (text_within (λ text. list_rule is_wrong (texts ++ text ∷ []) operands) (list_rule true texts operands) (λ text. list_within operands is_wrong (texts ++ text ∷ []) (λ k d below. all (suc k) d (omega arith))) (list_within operands true texts (λ k d below. all (suc k) d (omega arith)))),
   )
 
-  chosen_within : (function : List ℕ) (reply : Result (Option Chosen) Refusal) → ReadsWithin (length nodes) (chosen_rule nodes function reply)
+  chosen_within : (function : List ℕ) (reply : Result (Option Chosen) Refusal) → ReadsWithin (length nodes) (chosen_rule (output_place nodes) function reply)
   chosen_within function (Ok (Some chosen)) = output_within chosen (output_place nodes chosen) (place_within nodes chosen)
   chosen_within function (Ok None) = tt
   chosen_within function (Err refusal) = tt
@@ -174,13 +174,13 @@ module _ {M F Z S : Type 0} (meanings : Meanings M F Z S) (nodes : List (Express
   rule_within (Zipped left right call) within = (within.0, value_within _ (λ a. (within.1, value_within _ (λ b. tt))))
   rule_within (OrElse left right) within = (within.0, else_within right within.1)
 
-  carry_property_within : (setting : Option Setting) (convention : Option ℕ) → SettingWithin (length nodes) setting → PlaceWithin (length nodes) convention → ReadsWithin (length nodes) (carry_property setting convention)
+  carry_property_within : (setting : Option (Setting ℕ)) (convention : Option ℕ) → SettingWithin (length nodes) setting → PlaceWithin (length nodes) convention → ReadsWithin (length nodes) (carry_property setting convention)
   carry_property_within (Some (Held value)) convention s p = tt
   carry_property_within (Some (Followed source)) convention s p = (s, λ a. tt)
   carry_property_within None (Some source) s p = (p, λ a. tt)
   carry_property_within None None s p = tt
 
-  tasks_within : (go_on : List (List ℕ) → Rule Produced) → ((tasks : List (List ℕ)) → ReadsWithin (length nodes) (go_on tasks)) → (a : Produced) → ReadsWithin (length nodes) (on_tasks go_on a)
+  tasks_within : (go_on : List (List ℕ) → Rule ℕ (Produced ℕ)) → ((tasks : List (List ℕ)) → ReadsWithin (length nodes) (go_on tasks)) → (a : Produced ℕ) → ReadsWithin (length nodes) (on_tasks go_on a)
   tasks_within go_on all (produced.Tasks tasks) = all tasks
   tasks_within go_on all (produced.Refused fault) = tt
   tasks_within go_on all (produced.Endless chooser) = tt
@@ -238,13 +238,13 @@ module _ {M F Z S : Type 0} (meanings : Meanings M F Z S) (nodes : List (Express
         let more : length (map k (nodes ++ e ∷ [])) ≡ length nodes + 1 = length-map (nodes ++ e ∷ []) k ∙ simp length-append refl in
         omega (arith, less, more)
 
-    value_rule_within : (i : ℕ) (r : Rule Outcome) → slice_get (rules meanings nodes) i ≡ Some r → ReadsWithin (length (rules meanings nodes)) r
+    value_rule_within : (i : ℕ) (r : Rule ℕ Outcome) → slice_get (rules meanings nodes) i ≡ Some r → ReadsWithin (length (rules meanings nodes)) r
     value_rule_within i r is =
         let found = mapped_at (rule meanings nodes) nodes i r (slice_get nodes i) refl (sym (slice_get-map (rule meanings nodes) nodes i) ∙ is) in
         let same : length nodes ≡ length (rules meanings nodes) = sym (length-map nodes (rule meanings nodes)) in
         subst (λ n. ReadsWithin n r) same (subst (ReadsWithin (length nodes)) found.2 (rule_within found.0 (node_within i found.0 found.1)))
 
-    value_rule_alike : (i : ℕ) (r : Rule Outcome) → slice_get (rules meanings nodes) i ≡ Some r → (s : Rule Outcome) × (slice_get (rules meanings (nodes ++ e ∷ [])) i ≡ Some s) × ((f : ℕ → Option Outcome) → reading f s ≡ reading f r)
+    value_rule_alike : (i : ℕ) (r : Rule ℕ Outcome) → slice_get (rules meanings nodes) i ≡ Some r → (s : Rule ℕ Outcome) × (slice_get (rules meanings (nodes ++ e ∷ [])) i ≡ Some s) × ((f : ℕ → Option Outcome) → reading f s ≡ reading f r)
     value_rule_alike i r is =
         let found = mapped_at (rule meanings nodes) nodes i r (slice_get nodes i) refl (sym (slice_get-map (rule meanings nodes) nodes i) ∙ is) in (
           rule meanings (nodes ++ e ∷ []) found.0,
@@ -273,13 +273,13 @@ module _ {M F Z S : Type 0} (meanings : Meanings M F Z S) (nodes : List (Express
     same_carrier (Zipped left right call) w = refl
     same_carrier (OrElse left right) w = ap (carry_side left right) (values_grown left w.0)
 
-    task_rule_within : (i : ℕ) (r : Rule Produced) → slice_get (carriers meanings nodes) i ≡ Some r → ReadsWithin (length (carriers meanings nodes)) r
+    task_rule_within : (i : ℕ) (r : Rule ℕ (Produced ℕ)) → slice_get (carriers meanings nodes) i ≡ Some r → ReadsWithin (length (carriers meanings nodes)) r
     task_rule_within i r is =
         let found = mapped_at (carrier meanings nodes) nodes i r (slice_get nodes i) refl (sym (slice_get-map (carrier meanings nodes) nodes i) ∙ is) in
         let same : length nodes ≡ length (carriers meanings nodes) = sym (length-map nodes (carrier meanings nodes)) in
         subst (λ n. ReadsWithin n r) same (subst (ReadsWithin (length nodes)) found.2 (carrier_within found.0 (node_within i found.0 found.1)))
 
-    task_rule_alike : (i : ℕ) (r : Rule Produced) → slice_get (carriers meanings nodes) i ≡ Some r → (s : Rule Produced) × (slice_get (carriers meanings (nodes ++ e ∷ [])) i ≡ Some s) × ((f : ℕ → Option Produced) → reading f s ≡ reading f r)
+    task_rule_alike : (i : ℕ) (r : Rule ℕ (Produced ℕ)) → slice_get (carriers meanings nodes) i ≡ Some r → (s : Rule ℕ (Produced ℕ)) × (slice_get (carriers meanings (nodes ++ e ∷ [])) i ≡ Some s) × ((f : ℕ → Option (Produced ℕ)) → reading f s ≡ reading f r)
     task_rule_alike i r is =
         let found = mapped_at (carrier meanings nodes) nodes i r (slice_get nodes i) refl (sym (slice_get-map (carrier meanings nodes) nodes i) ∙ is) in (
           carrier meanings (nodes ++ e ∷ []) found.0,
@@ -294,6 +294,6 @@ module _ {M F Z S : Type 0} (meanings : Meanings M F Z S) (nodes : List (Express
         same_answers (carriers meanings nodes) (carriers meanings (nodes ++ e ∷ [])) (longer_by (carrier meanings nodes) (carrier meanings (nodes ++ e ∷ []))) task_rule_within task_rule_alike i (omega (arith, below, same))
 
     -- and so do the cached tasks
-    pub tasks_remembered : (states : List (State Produced)) → IsRemembered (carriers meanings nodes) states → IsRemembered (carriers meanings (nodes ++ e ∷ [])) states
+    pub tasks_remembered : (states : List (State (Produced ℕ))) → IsRemembered (carriers meanings nodes) states → IsRemembered (carriers meanings (nodes ++ e ∷ [])) states
     tasks_remembered states was =
         sound_grown (carriers meanings nodes) (carriers meanings (nodes ++ e ∷ [])) (longer_by (carrier meanings nodes) (carrier meanings (nodes ++ e ∷ []))) task_rule_within task_rule_alike states was.0 was.1

@@ -24,7 +24,7 @@ module _ {A : Type 0} (f : ℕ → Option A) (operand : ℕ) where
   no_reads (suc n) a reads = reads
 
   -- a rule waits for an operand that it reads and that is not known
-  pub reads_wait : (n : ℕ) (rule : Rule A) → ReadsAfter f operand n rule → f operand ≡ None → reading f rule ≡ Waits operand
+  pub reads_wait : (n : ℕ) (rule : Rule ℕ A) → ReadsAfter f operand n rule → f operand ≡ None → reading f rule ≡ Waits operand
   reads_wait n (Answers a) reads none = absurd (no_reads n a reads)
   reads_wait zero (Reads next_operand next) reads none =
       after_is next_operand (λ a. reading f (next a)) (f next_operand) None (ap f reads ∙ none) ∙ ap Waits reads
@@ -32,7 +32,7 @@ module _ {A : Type 0} (f : ℕ → Option A) (operand : ℕ) where
       after_is next_operand (λ a. reading f (next a)) (f next_operand) (Some reads.0) reads.1 ∙ reads_wait n (next reads.0) reads.2 none
 
   -- and the operands before that one need not be read again
-  pub reads_past : (n : ℕ) (rule : Rule A) → ReadsAfter f operand n rule → IsPast f n rule
+  pub reads_past : (n : ℕ) (rule : Rule ℕ A) → ReadsAfter f operand n rule → IsPast f n rule
   reads_past zero rule reads = tt
   reads_past (suc n) rule reads = (operand, reads)
 
@@ -54,7 +54,7 @@ module _ (f : ℕ → Option Outcome) where
   given_of None is = cc
 
   -- the operands read after an element, whatever value it is
-  reads_after : (operand n : ℕ) (go_on : List ℕ → Rule Outcome) (other : Rule Outcome) → ((text : List ℕ) → ReadsAfter f operand n (go_on text)) → ReadsAfter f operand n other → (value : Value) → ReadsAfter f operand n (on_text go_on other value)
+  reads_after : (operand n : ℕ) (go_on : List ℕ → Rule ℕ Outcome) (other : Rule ℕ Outcome) → ((text : List ℕ) → ReadsAfter f operand n (go_on text)) → ReadsAfter f operand n other → (value : Value) → ReadsAfter f operand n (on_text go_on other value)
   reads_after operand n go_on other all also (values.Text text) = all text
   reads_after operand n go_on other all also (values.Flag flag) = also
   reads_after operand n go_on other all also (values.List texts) = also
@@ -92,8 +92,8 @@ module _ (f : ℕ → Option Outcome) where
   past_texts operands zero past = none_before (λ o. is_given (f o)) operands
   past_texts operands (suc n) past = reads_texts operands false [] past.0 (suc n) past.1
 
-module _ (f : ℕ → Option Produced) where
-  tasks_of : (o : Option Produced) → IsTrue (has_tasks o) → (tasks : List (List ℕ)) × (o ≡ Some (produced.Tasks tasks))
+module _ (f : ℕ → Option (Produced ℕ)) where
+  tasks_of : (o : Option (Produced ℕ)) → IsTrue (has_tasks o) → (tasks : List (List ℕ)) × (o ≡ Some (produced.Tasks tasks))
   tasks_of (Some (produced.Tasks tasks)) is = (tasks, refl)
   tasks_of (Some (produced.Refused fault)) is = cc
   tasks_of (Some (produced.Endless chooser)) is = cc

@@ -10,29 +10,29 @@ use Rattle.gb_provider.proofs.RoundsLemmas.{Extends}
 use Rattle.gb_provider.proofs.SearchLemmas.{get_set_other}
 
 module _ {A : Type 0} (f g : ℕ → Option A) (x : Extends f g) where
-  reads_kept : (operand n : ℕ) (rule : Rule A) → ReadsAfter f operand n rule → ReadsAfter g operand n rule
+  reads_kept : (operand n : ℕ) (rule : Rule ℕ A) → ReadsAfter f operand n rule → ReadsAfter g operand n rule
   reads_kept operand zero (Answers a) reads = absurd reads
   reads_kept operand (suc n) (Answers a) reads = absurd reads
   reads_kept operand zero (Reads next_operand next) reads = reads
   reads_kept operand (suc n) (Reads next_operand next) reads =
       (reads.0, x.keeps next_operand reads.0 reads.1, reads_kept operand n (next reads.0) reads.2)
 
-  past_kept : (n : ℕ) (rule : Rule A) → IsPast f n rule → IsPast g n rule
+  past_kept : (n : ℕ) (rule : Rule ℕ A) → IsPast f n rule → IsPast g n rule
   past_kept zero rule past = tt
   past_kept (suc n) rule past = (past.0, reads_kept past.0 (suc n) rule past.1)
 
   -- more answers leave them as they are
-  pub past_at_kept : (rules : List (Rule A)) (entry n : ℕ) → IsPastAt rules f entry n → IsPastAt rules g entry n
+  pub past_at_kept : (rules : List (Rule ℕ A)) (entry n : ℕ) → IsPastAt rules f entry n → IsPastAt rules g entry n
   past_at_kept rules entry n past rule there = past_kept n rule (past rule there)
 
 -- the operands along a path that need not be read again
-abbrev pub ArePast : {A : Type 0} → List (Rule A) → (ℕ → Option A) → List ℕ → List ℕ → Type 0
+abbrev pub ArePast : {A : Type 0} → List (Rule ℕ A) → (ℕ → Option A) → List ℕ → List ℕ → Type 0
 ArePast rules f [] [] = Unit {0}
 ArePast rules f [] (n ∷ pasts) = ⊥
 ArePast rules f (entry ∷ path) [] = ⊥
 ArePast rules f (entry ∷ path) (n ∷ pasts) = IsPastAt rules f entry n × ArePast rules f path pasts
 
-module _ {A : Type 0} (rules : List (Rule A)) where
+module _ {A : Type 0} (rules : List (Rule ℕ A)) where
   pub are_past_kept : (f g : ℕ → Option A) → Extends f g → (path pasts : List ℕ) → ArePast rules f path pasts → ArePast rules g path pasts
   are_past_kept f g x [] [] past = tt
   are_past_kept f g x [] (n ∷ pasts) past = absurd past

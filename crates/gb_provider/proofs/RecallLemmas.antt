@@ -32,11 +32,11 @@ module _ {A : Type 0} where
   closed_more (state ∷ states) (suc e) shut is = closed_more states e shut is
 
   -- with no cached answers, all of them are right
-  pub none_remembered : (table : List (Rule A)) → IsRemembered table []
+  pub none_remembered : (table : List (Rule ℕ A)) → IsRemembered table []
   none_remembered table = (omega arith, record { right = λ e a is. cc; settled = λ e a is. cc; closed = λ e is. cc })
 
   -- the same answers under more states are as right
-  pub sound_extended : (table : List (Rule A)) (old new : List (State A)) → ((e : ℕ) → known new e ≡ known old e) → ((e : ℕ) → slice_get old e ≢ Some Open → slice_get new e ≢ Some Open) → IsSound table old → IsSound table new
+  pub sound_extended : (table : List (Rule ℕ A)) (old new : List (State A)) → ((e : ℕ) → known new e ≡ known old e) → ((e : ℕ) → slice_get old e ≢ Some Open → slice_get new e ≢ Some Open) → IsSound table old → IsSound table new
   sound_extended table old new same shut sound = record {
     right = λ e a now. sound.right e a (sym (same e) ∙ now);
     settled = still_settled table old new same sound.settled;

@@ -12,36 +12,36 @@ pub record Extends {A : Type 0} (f g : ℕ → Option A) : Type 0 where
   pub keeps : (entry : ℕ) (a : A) → f entry ≡ Some a → g entry ≡ Some a
 
 module _ {A : Type 0} where
-  pub after_is : (operand : ℕ) (go_on : A → Reading A) (o p : Option A) → o ≡ p → after_operand operand go_on o ≡ after_operand operand go_on p
+  pub after_is : (operand : ℕ) (go_on : A → Reading ℕ A) (o p : Option A) → o ≡ p → after_operand operand go_on o ≡ after_operand operand go_on p
   after_is operand go_on o p e = ap (after_operand operand go_on) e
 
-  pub settled_is : (r : Reading A) (a : A) → settled r ≡ Some a → r ≡ Settles a
+  pub settled_is : (r : Reading ℕ A) (a : A) → settled r ≡ Some a → r ≡ Settles a
   settled_is (Settles b) a e = cc
   settled_is (Waits s) a e = cc
 
 module _ {A : Type 0} (f g : ℕ → Option A) (x : Extends f g) where
-  kept_at : (operand : ℕ) (next : A → Rule A) (a : A) → ((b : A) → reading f (next b) ≡ Settles a → reading g (next b) ≡ Settles a) → (o : Option A) → f operand ≡ o → after_operand operand (λ b. reading f (next b)) o ≡ Settles a → after_operand operand (λ b. reading g (next b)) (g operand) ≡ Settles a
+  kept_at : (operand : ℕ) (next : A → Rule ℕ A) (a : A) → ((b : A) → reading f (next b) ≡ Settles a → reading g (next b) ≡ Settles a) → (o : Option A) → f operand ≡ o → after_operand operand (λ b. reading f (next b)) o ≡ Settles a → after_operand operand (λ b. reading g (next b)) (g operand) ≡ Settles a
   kept_at operand next a ih None was e = cc
   kept_at operand next a ih (Some b) was e = after_is operand (λ c. reading g (next c)) (g operand) (Some b) (x.keeps operand b was) ∙ ih b e
 
   -- a rule that settles keeps settling
-  pub reading_kept : (rule : Rule A) (a : A) → reading f rule ≡ Settles a → reading g rule ≡ Settles a
+  pub reading_kept : (rule : Rule ℕ A) (a : A) → reading f rule ≡ Settles a → reading g rule ≡ Settles a
   reading_kept (Answers b) a e = e
   reading_kept (Reads operand next) a e = kept_at operand next a (λ b. reading_kept (next b) a) (f operand) refl e
 
-  waits_at : (operand : ℕ) (next : A → Rule A) (s : ℕ) → ((b : A) → reading f (next b) ≡ Waits s → g s ≡ None → reading g (next b) ≡ Waits s) → (o : Option A) → f operand ≡ o → after_operand operand (λ b. reading f (next b)) o ≡ Waits s → g s ≡ None → after_operand operand (λ b. reading g (next b)) (g operand) ≡ Waits s
+  waits_at : (operand : ℕ) (next : A → Rule ℕ A) (s : ℕ) → ((b : A) → reading f (next b) ≡ Waits s → g s ≡ None → reading g (next b) ≡ Waits s) → (o : Option A) → f operand ≡ o → after_operand operand (λ b. reading f (next b)) o ≡ Waits s → g s ≡ None → after_operand operand (λ b. reading g (next b)) (g operand) ≡ Waits s
   waits_at operand next s ih None was e none =
       let same : operand ≡ s = cc in
       after_is operand (λ c. reading g (next c)) (g operand) None (ap g same ∙ none) ∙ ap Waits same
   waits_at operand next s ih (Some b) was e none = after_is operand (λ c. reading g (next c)) (g operand) (Some b) (x.keeps operand b was) ∙ ih b e none
 
   -- a rule that waits keeps waiting for the same operand, while that has no answer
-  pub reading_waits : (rule : Rule A) (s : ℕ) → reading f rule ≡ Waits s → g s ≡ None → reading g rule ≡ Waits s
+  pub reading_waits : (rule : Rule ℕ A) (s : ℕ) → reading f rule ≡ Waits s → g s ≡ None → reading g rule ≡ Waits s
   reading_waits (Answers b) s e none = cc
   reading_waits (Reads operand next) s e none = waits_at operand next s (λ b. reading_waits (next b) s) (f operand) refl e none
 
 module _ {A : Type 0} (f g h : ℕ → Option A) (x : Extends f h) (y : Extends g h) where
-  still_at : (operand : ℕ) (next : A → Rule A) (s : ℕ) → ((b : A) → reading f (next b) ≡ Waits s → g s ≡ None → settled (reading g (next b)) ≡ None) → (o p : Option A) → f operand ≡ o → g operand ≡ p → after_operand operand (λ b. reading f (next b)) o ≡ Waits s → g s ≡ None → settled (after_operand operand (λ b. reading g (next b)) p) ≡ None
+  still_at : (operand : ℕ) (next : A → Rule ℕ A) (s : ℕ) → ((b : A) → reading f (next b) ≡ Waits s → g s ≡ None → settled (reading g (next b)) ≡ None) → (o p : Option A) → f operand ≡ o → g operand ≡ p → after_operand operand (λ b. reading f (next b)) o ≡ Waits s → g s ≡ None → settled (after_operand operand (λ b. reading g (next b)) p) ≡ None
   still_at operand next s ih o None was is e none = refl
   still_at operand next s ih None (Some c) was is e none =
       let same : operand ≡ s = cc in
@@ -54,16 +54,16 @@ module _ {A : Type 0} (f g h : ℕ → Option A) (x : Extends f h) (y : Extends 
 
   -- of two tables of right answers: if a rule waits for s in one, it does not settle in the other while s has
   -- no answer there
-  pub reading_still_waits : (rule : Rule A) (s : ℕ) → reading f rule ≡ Waits s → g s ≡ None → settled (reading g rule) ≡ None
+  pub reading_still_waits : (rule : Rule ℕ A) (s : ℕ) → reading f rule ≡ Waits s → g s ≡ None → settled (reading g rule) ≡ None
   reading_still_waits (Answers b) s e none = cc
   reading_still_waits (Reads operand next) s e none = still_at operand next s (λ b. reading_still_waits (next b) s) (f operand) (g operand) refl refl e none
 
 -- one round
-abbrev pub round : {A : Type 0} → List (Rule A) → (ℕ → Option A) → ℕ → Option A
+abbrev pub round : {A : Type 0} → List (Rule ℕ A) → (ℕ → Option A) → ℕ → Option A
 round rules f entry = and_then (λ rule. settled (reading f rule)) (slice_get rules entry)
 
-module _ {A : Type 0} (rules : List (Rule A)) where
-  round_at : (f g : ℕ → Option A) → Extends f g → (o : Option (Rule A)) (a : A) → and_then (λ rule. settled (reading f rule)) o ≡ Some a → and_then (λ rule. settled (reading g rule)) o ≡ Some a
+module _ {A : Type 0} (rules : List (Rule ℕ A)) where
+  round_at : (f g : ℕ → Option A) → Extends f g → (o : Option (Rule ℕ A)) (a : A) → and_then (λ rule. settled (reading f rule)) o ≡ Some a → and_then (λ rule. settled (reading g rule)) o ≡ Some a
   round_at f g x None a e = cc
   round_at f g x (Some rule) a e = ap settled (reading_kept f g x rule a (settled_is (reading f rule) a e))
 
@@ -136,7 +136,7 @@ module _ {A : Type 0} (f g : ℕ → Option A) (x : Extends f g) where
         | inr past ↦ let at : i ≡ k = omega arith in rw at (same_waiting (f k) (g k) here (rw at at none))
       ]
 
-module _ {A : Type 0} (rules : List (Rule A)) where
+module _ {A : Type 0} (rules : List (Rule ℕ A)) where
   -- n rounds that each answer something new leave at most the rest open; else some round was idle
   progress : (n : ℕ) → (missing (answer_after rules n) (length rules) + n ≤ length rules) ⊎ ((m : ℕ) × (m < n) × (missing (answer_after rules (suc m)) (length rules) ≡ missing (answer_after rules m) (length rules)))
   progress zero = inl (omega (arith, missing_at_most (answer_after rules zero) (length rules)))
@@ -150,7 +150,7 @@ module _ {A : Type 0} (rules : List (Rule A)) where
         | inr idle ↦ inr (idle.0, omega (arith, idle.1), idle.2)
       ]
 
-  round_past : (f : ℕ → Option A) (entry : ℕ) (o : Option (Rule A)) (a : A) → and_then (λ rule. settled (reading f rule)) o ≡ Some a → (rule : Rule A) × (o ≡ Some rule)
+  round_past : (f : ℕ → Option A) (entry : ℕ) (o : Option (Rule ℕ A)) (a : A) → and_then (λ rule. settled (reading f rule)) o ≡ Some a → (rule : Rule ℕ A) × (o ≡ Some rule)
   round_past f entry None a e = cc
   round_past f entry (Some rule) a e = (rule, refl)
 

@@ -12,7 +12,7 @@ use Rattle.gb_provider.specs.declared.evaluation.Reading.TheVariants.{Settles, W
 use Rattle.gb_provider.specs.Rounds.{Rule, reading, answer, and_then}
 use Rattle.gb_provider.specs.Search.{AreSettled, WaitsFor, IsSearch, IsSound, known, known_answer, left_at, left}
 use Rattle.gb_provider.proofs.RoundsLemmas.{Extends, reading_kept, reading_waits}
-use Rattle.gb_provider.proofs.CircleLemmas.{answer_settled, never, awaits}
+use Rattle.gb_provider.proofs.CircleLemmas.{IsIndexedCircle, answer_settled, awaits, circle_of_index, never}
 use Rattle.gb_provider.specs.Rounds.{next_awaited}
 use Rattle.gb_provider.specs.Circle.{awaited_after, IsCircle}
 use Rattle.std.proofs.lemmas.List.{get_or-drop, length-drop}
@@ -45,7 +45,7 @@ known_opened states at is = ap (and_then known_answer) is
 known_new : {A : Type 0} (states : List (State A)) (at : ℕ) → slice_get states at ≡ Some New → known states at ≡ None
 known_new states at is = ap (and_then known_answer) is
 
-module _ {A : Type 0} (rules : List (Rule A)) (entry : ℕ) (states : List (State A)) (prefix : List ℕ) (at : ℕ) (search : IsSearch rules entry states (prefix ++ at ∷ [])) where
+module _ {A : Type 0} (rules : List (Rule ℕ A)) (entry : ℕ) (states : List (State A)) (prefix : List ℕ) (at : ℕ) (search : IsSearch rules entry states (prefix ++ at ∷ [])) where
   longer : length (prefix ++ at ∷ []) ≡ length prefix + 1
   longer = simp length-append refl
 
@@ -67,7 +67,7 @@ module _ {A : Type 0} (rules : List (Rule A)) (entry : ℕ) (states : List (Stat
   prefix_other k less same =
       search.different k (length prefix) less (omega (arith, longer)) (below_top k less ∙ (sym same ∙ sym top))
 
-  module _ (rule : Rule A) (there : slice_get rules at ≡ Some rule) (o : A) (is : reading (known states) rule ≡ Settles o) where
+  module _ (rule : Rule ℕ A) (there : slice_get rules at ≡ Some rule) (o : A) (is : reading (known states) rule ≡ Settles o) where
     known_more : Extends (known states) (known (set states at (Known o)))
     known_more = record {
       keeps = λ e a was.
@@ -164,7 +164,7 @@ module _ {A : Type 0} (rules : List (Rule A)) (entry : ℕ) (states : List (Stat
         let sums : left (set states at (Known o)) + 1 ≡ left states + 0 = rw was_open at (sum_by-set left_at states at (Known o) Open top_within) in
         omega arith
 
-  module _ (rule : Rule A) (there : slice_get rules at ≡ Some rule) (operand : ℕ) (is : reading (known states) rule ≡ Waits operand) where
+  module _ (rule : Rule ℕ A) (there : slice_get rules at ≡ Some rule) (operand : ℕ) (is : reading (known states) rule ≡ Waits operand) where
     module _ (is_new : slice_get states operand ≡ Some New) where
       new_within : operand < length states
       new_within = slice_get_within states operand New is_new
@@ -341,9 +341,8 @@ module _ {A : Type 0} (rules : List (Rule A)) (entry : ℕ) (states : List (Stat
       circle_different i j less below same =
           search.different (place + i) (place + j) (omega arith) (omega (arith, circle_length)) (sym (circle_at i) ∙ (same ∙ circle_at j))
 
-      -- the path from that place on is the circle
-      pub path_circle : IsCircle rules entry (drop place (prefix ++ at ∷ []))
-      path_circle = record {
+      path_indexed : IsIndexedCircle rules entry (drop place (prefix ++ at ∷ []))
+      path_indexed = record {
         some = omega (arith, circle_length);
         reached = (place, path_reached place on_path ∙ ap Some (sym circle_first));
         next = circle_next;
@@ -351,13 +350,17 @@ module _ {A : Type 0} (rules : List (Rule A)) (entry : ℕ) (states : List (Stat
         different = circle_different;
       }
 
+      -- the path from that place on is the circle
+      pub path_circle : IsCircle rules entry (drop place (prefix ++ at ∷ []))
+      path_circle = circle_of_index rules entry (drop place (prefix ++ at ∷ [])) path_indexed
+
 -- the same answers depend on one another
-pub still_settled : {A : Type 0} (rules : List (Rule A)) (old new : List (State A)) → ((e : ℕ) → known new e ≡ known old e) → AreSettled rules old → AreSettled rules new
+pub still_settled : {A : Type 0} (rules : List (Rule ℕ A)) (old new : List (State A)) → ((e : ℕ) → known new e ≡ known old e) → AreSettled rules old → AreSettled rules new
 still_settled rules old new same settled e a now =
     let was = settled e a (sym (same e) ∙ now) in
     (was.0, was.1, reading_kept (known old) (known new) (record { keeps = λ i b is. same i ∙ is }) was.0 a was.2)
 
-module _ {A : Type 0} (rules : List (Rule A)) (entry : ℕ) (states : List (State A)) (same : length states ≡ length rules) (sound : IsSound rules states) (is_new : slice_get states entry ≡ Some New) where
+module _ {A : Type 0} (rules : List (Rule ℕ A)) (entry : ℕ) (states : List (State A)) (same : length states ≡ length rules) (sound : IsSound rules states) (is_new : slice_get states entry ≡ Some New) where
   first_within : entry < length states
   first_within = slice_get_within states entry New is_new
 
@@ -396,7 +399,7 @@ module _ {A : Type 0} (rules : List (Rule A)) (entry : ℕ) (states : List (Stat
   }
 
 -- a search that is over leaves no entry open
-pub ended_sound : {A : Type 0} (rules : List (Rule A)) (entry : ℕ) (states : List (State A)) (path : List ℕ) → IsSearch rules entry states path → length path ≡ 0 → IsSound rules states
+pub ended_sound : {A : Type 0} (rules : List (Rule ℕ A)) (entry : ℕ) (states : List (State A)) (path : List ℕ) → IsSearch rules entry states path → length path ≡ 0 → IsSound rules states
 ended_sound rules entry states path search none = record {
   right = search.right;
   settled = search.settled;

@@ -23,7 +23,7 @@ place_more : (n m : ℕ) → n ≤ m → (place : Option ℕ) → PlaceWithin n 
 place_more n m more None within = tt
 place_more n m more (Some place) within = omega (arith, within, more)
 
-setting_more : (n m : ℕ) → n ≤ m → (setting : Option Setting) → SettingWithin n setting → SettingWithin m setting
+setting_more : (n m : ℕ) → n ≤ m → (setting : Option (Setting ℕ)) → SettingWithin n setting → SettingWithin m setting
 setting_more n m more None within = tt
 setting_more n m more (Some (Held value)) within = tt
 setting_more n m more (Some (Followed source)) within = omega (arith, within, more)

@@ -11,13 +11,13 @@ use Rattle.gb_provider.specs.Rounds.{Rule, answer_after}
 -- an answer stays once it is reached
 abbrev pub AnswersStay : Type 0 → Type 0
 AnswersStay A =
-    (rules : List (Rule A)) (m n entry : ℕ) (a : A) → m ≤ n → answer_after rules m entry ≡ Some a
+    (rules : List (Rule ℕ A)) (m n entry : ℕ) (a : A) → m ≤ n → answer_after rules m entry ≡ Some a
     → answer_after rules n entry ≡ Some a
 
 -- an entry without an answer after as many rounds as there are entries never has one
 abbrev pub RoundsAreBounded : Type 0 → Type 0
 RoundsAreBounded A =
-    (rules : List (Rule A)) (entry : ℕ) → answer_after rules (length rules) entry ≡ None → (n : ℕ)
+    (rules : List (Rule ℕ A)) (entry : ℕ) → answer_after rules (length rules) entry ≡ None → (n : ℕ)
     → answer_after rules n entry ≡ None
 
 -- one more expression that is no output changes neither the value of another nor its tasks

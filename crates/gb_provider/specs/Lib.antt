@@ -4,6 +4,7 @@ pub mod Faults
 pub mod Rounds
 pub mod Circle
 pub mod Called
+pub mod Forms
 pub mod Rules
 pub mod Search
 pub mod Names

@@ -10,15 +10,14 @@ use Rattle.gb_provider.specs.declared.fault.ProviderFault.TheVariants as provide
 use Rattle.gb_provider.specs.declared.expression.Setting.{Setting}
 use Rattle.gb_provider.specs.declared.expression.Setting.TheVariants.{Held, Followed}
 use Rattle.gb_provider.specs.declared.expression.Expression.{Expression}
-use Rattle.gb_provider.specs.declared.expression.Expression.TheVariants.{Constant, OfProperty, OfOutput}
-use Rattle.gb_provider.specs.declared.expression.Expression.TheVariants.{Listed, Mapped, FlatMapped, Zipped}
-use Rattle.gb_provider.specs.declared.expression.Expression.TheVariants.{OrElse}
 use Rattle.gb_provider.specs.declared.expression.Outcome.{Outcome}
 use Rattle.gb_provider.specs.declared.expression.Outcome.TheVariants as outcomes
 use Rattle.gb_provider.specs.declared.produced.Produced.{Produced}
 use Rattle.gb_provider.specs.declared.produced.Produced.TheVariants.{Tasks, Refused, Endless}
 use Rattle.gb_provider.specs.Answers.{IsFault, value_of}
 use Rattle.gb_provider.specs.Called.{Called}
+use Rattle.gb_provider.specs.Forms as forms
+use Rattle.gb_provider.specs.Forms.{Form, view}
 use Rattle.gb_provider.specs.Circle.{IsCircle}
 use Rattle.gb_provider.specs.Meanings.{Meanings, meaning_of}
 use Rattle.gb_provider.specs.Names.{IsLeastRound, names_on}
@@ -39,68 +38,72 @@ constant_tasks (Some value) = tasks_of value
 constant_tasks None = []
 
 -- the tasks of another expression
-abbrev pub carry : ℕ → Rule Produced
+abbrev pub carry : {K : Type 0} → K → Rule K (Produced K)
 carry operand = Reads operand Answers
 
 -- the rule that continues if the operand has tasks; else the operand is the answer
-abbrev pub on_tasks : (List (List ℕ) → Rule Produced) → Produced → Rule Produced
+abbrev pub on_tasks : {K : Type 0} → (List (List ℕ) → Rule K (Produced K)) → Produced K → Rule K (Produced K)
 on_tasks go_on (Tasks tasks) = go_on tasks
 on_tasks go_on (Refused fault) = Answers (Refused fault)
 on_tasks go_on (Endless chooser) = Answers (Endless chooser)
 
 -- the tasks of all operands, added to those already found
-abbrev pub carry_all : List (List ℕ) → List ℕ → Rule Produced
+abbrev pub carry_all : {K : Type 0} → List (List ℕ) → List K → Rule K (Produced K)
 carry_all tasks [] = Answers (Tasks tasks)
 carry_all tasks (operand ∷ operands) =
     Reads operand (on_tasks (λ more. carry_all (with_tasks tasks more) operands))
 
 -- A property: the tasks of its setting, else of its convention, else none.
-abbrev pub carry_property : Option Setting → Option ℕ → Rule Produced
+abbrev pub carry_property : {K : Type 0} → Option (Setting K) → Option K → Rule K (Produced K)
 carry_property (Some (Held value)) convention = Answers (Tasks (tasks_of value))
 carry_property (Some (Followed source)) convention = carry source
 carry_property None (Some source) = carry source
 carry_property None None = Answers (Tasks [])
 
 -- `orElse`: the tasks of the side that the value of the left selects
-abbrev pub carry_side : ℕ → ℕ → Option Outcome → Rule Produced
+abbrev pub carry_side : {K : Type 0} → K → K → Option Outcome → Rule K (Produced K)
 carry_side left right (Some (outcomes.Given value)) = carry left
 carry_side left right (Some outcomes.Absent) = carry right
 carry_side left right (Some (outcomes.Refused fault)) = Answers (Refused fault)
 carry_side left right None = Answers (Endless left)
 
 -- the task of the chosen output; none if none is chosen
-abbrev pub chosen_tasks : List ℕ → Result (Option Chosen) Refusal → Produced
+abbrev pub chosen_tasks : {K : Type 0} → List ℕ → Result (Option Chosen) Refusal → Produced K
 chosen_tasks function (Ok (Some chosen)) = Tasks (chosen.task ∷ [])
 chosen_tasks function (Ok None) = Tasks []
 chosen_tasks function (Err refusal) = Refused (faults.Refused function refusal)
 
 module _ {M F Z S : Type 0} (meanings : Meanings M F Z S) where
   -- `flatMap`: the task of the output that the value of the source chooses
-  abbrev pub choose_tasks : ℕ → Called F → Option Outcome → Produced
+  abbrev pub choose_tasks : {K : Type 0} → K → Called F → Option Outcome → Produced K
   choose_tasks source call (Some (outcomes.Given value)) =
       chosen_tasks call.name (meaning_of meanings.flat_map call.function value call.arguments)
   choose_tasks source call (Some outcomes.Absent) = Tasks []
   choose_tasks source call (Some (outcomes.Refused fault)) = Refused fault
   choose_tasks source call None = Endless source
 
-  module _ (nodes : List (Expression M F Z)) where
-    -- From which expressions the tasks of one come. Values are read only if they choose.
-    abbrev pub carrier : Expression M F Z → Rule Produced
-    carrier (Constant value) = Answers (Tasks (constant_tasks value))
-    carrier (OfProperty property) = carry_property property.setting property.convention
-    carrier (OfOutput output) = Answers (Tasks (output.chosen.task ∷ []))
-    carrier (Listed operands) = carry_all [] operands
-    carrier (Mapped source call) = carry source
-    carrier (FlatMapped source call) = Answers (choose_tasks source call (value_of meanings nodes source))
-    carrier (Zipped left right call) = carry_all [] (left ∷ right ∷ [])
-    carrier (OrElse left right) = carry_side left right (value_of meanings nodes left)
+  -- From which expressions the tasks of one come. Values are read only if they choose.
+  abbrev pub makers_rule : {K : Type 0} → (K → Option Outcome) → Form M F Z K → Rule K (Produced K)
+  makers_rule value (forms.Constant constant) = Answers (Tasks (constant_tasks constant))
+  makers_rule value (forms.OfProperty project name setting convention) = carry_property setting convention
+  makers_rule value (forms.OfOutput chosen declared) = Answers (Tasks (chosen.task ∷ []))
+  makers_rule value (forms.Listed operands) = carry_all [] operands
+  makers_rule value (forms.Mapped source call) = carry source
+  makers_rule value (forms.FlatMapped source call) = Answers (choose_tasks source call (value source))
+  makers_rule value (forms.Zipped left right call) = carry_all [] (left ∷ right ∷ [])
+  makers_rule value (forms.OrElse left right) = carry_side left right (value left)
 
-    abbrev pub carriers : List (Rule Produced)
+  module _ (nodes : List (Expression M F Z)) where
+    -- the same of an expression of a table
+    abbrev pub carrier : Expression M F Z → Rule ℕ (Produced ℕ)
+    carrier expression = makers_rule (λ entry. value_of meanings nodes entry) (view expression)
+
+    abbrev pub carriers : List (Rule ℕ (Produced ℕ))
     carriers = map carrier nodes
 
     module _ (entry : ℕ) where
       -- The tasks that produce the value of an expression.
-      abbrev pub produced_by : Option Produced
+      abbrev pub produced_by : Option (Produced ℕ)
       produced_by = answer carriers entry
 
       -- finding the tasks runs into a circle, or the value of the expression that has to choose does

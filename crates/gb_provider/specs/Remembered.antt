@@ -19,7 +19,7 @@ abbrev pub AreWithin : {M F Z : Type 0} → List (Expression M F Z) → Type 0
 AreWithin nodes = All (λ node. OperandsWithin (length nodes) node) nodes
 
 -- the first expressions have states, and each answer that is known is right
-abbrev pub IsRemembered : {A : Type 0} → List (Rule A) → List (State A) → Type 0
+abbrev pub IsRemembered : {A : Type 0} → List (Rule ℕ A) → List (State A) → Type 0
 IsRemembered rules states = (length states ≤ length rules) × IsSound rules states
 
 -- all answers are forgotten, unless that of an entry is not known: then they stay
@@ -38,7 +38,7 @@ IsReported answer (Err faults.OutOfMemory) = Unit {0}
 
 -- the invariant of providers: operands are expressions of the table, and cached answers are right
 pub record AreKept {M F Z S : Type 0} (meanings : Meanings M F Z S) (nodes : List (Expression M F Z))
-    (known_values : List (State Outcome)) (known_producers : List (State Produced)) : Type 0 where
+    (known_values : List (State Outcome)) (known_producers : List (State (Produced ℕ))) : Type 0 where
   pub within : AreWithin nodes
   pub values : IsRemembered (rules meanings nodes) known_values
   pub producers : IsRemembered (carriers meanings nodes) known_producers

@@ -25,30 +25,31 @@ abbrev pub known : {A : Type 0} → List (State A) → ℕ → Option A
 known states entry = and_then known_answer (slice_get states entry)
 
 -- an evaluation step waits for one of the first n
-abbrev pub WaitsWithin : {A : Type 0} → ℕ → Reading A → Type 0
+abbrev pub WaitsWithin : {A : Type 0} → ℕ → Reading ℕ A → Type 0
 WaitsWithin n (Settles a) = Unit {0}
 WaitsWithin n (Waits operand) = operand < n
 
 -- with the answers f, the rule of an entry waits for an operand
-pub record WaitsFor {A : Type 0} (rules : List (Rule A)) (f : ℕ → Option A) (entry operand : ℕ) : Type 0 where
-  pub rule : Rule A
+pub record WaitsFor {A : Type 0} (rules : List (Rule ℕ A)) (f : ℕ → Option A)
+    (entry operand : ℕ) : Type 0 where
+  pub rule : Rule ℕ A
   pub there : slice_get rules entry ≡ Some rule
   pub waits : reading f rule ≡ Waits operand
 
 -- the result of one evaluation step of an entry, with the answers f
-abbrev pub IsLook : {A : Type 0} → List (Rule A) → (ℕ → Option A) → ℕ → Reading A → Type 0
+abbrev pub IsLook : {A : Type 0} → List (Rule ℕ A) → (ℕ → Option A) → ℕ → Reading ℕ A → Type 0
 IsLook {A} rules f entry found =
-    (rule : Rule A) × (slice_get rules entry ≡ Some rule) × (found ≡ reading f rule)
+    (rule : Rule ℕ A) × (slice_get rules entry ≡ Some rule) × (found ≡ reading f rule)
 
 -- each answer that is known follows from others that are known
-abbrev pub AreSettled : {A : Type 0} → List (Rule A) → List (State A) → Type 0
+abbrev pub AreSettled : {A : Type 0} → List (Rule ℕ A) → List (State A) → Type 0
 AreSettled {A} rules states =
     (e : ℕ) (a : A) → known states e ≡ Some a
-    → (rule : Rule A) × (slice_get rules e ≡ Some rule) × (reading (known states) rule ≡ Settles a)
+    → (rule : Rule ℕ A) × (slice_get rules e ≡ Some rule) × (reading (known states) rule ≡ Settles a)
 
 -- each known answer is right and is based on known answers, and the open entries are a path on
 -- which each waits for the next
-pub record IsSearch {A : Type 0} (rules : List (Rule A)) (entry : ℕ) (states : List (State A))
+pub record IsSearch {A : Type 0} (rules : List (Rule ℕ A)) (entry : ℕ) (states : List (State A))
     (path : List ℕ) : Type 0 where
   pub same : length states ≡ length rules
   pub right : (e : ℕ) (a : A) → known states e ≡ Some a → answer rules e ≡ Some a
@@ -63,13 +64,13 @@ pub record IsSearch {A : Type 0} (rules : List (Rule A)) (entry : ℕ) (states :
       → (k : ℕ) × (k < length path) × (slice_index path k ≡ e)
 
 -- each known answer is right and is based on known answers, and no entry is being evaluated
-pub record IsSound {A : Type 0} (rules : List (Rule A)) (states : List (State A)) : Type 0 where
+pub record IsSound {A : Type 0} (rules : List (Rule ℕ A)) (states : List (State A)) : Type 0 where
   pub right : (e : ℕ) (a : A) → known states e ≡ Some a → answer rules e ≡ Some a
   pub settled : AreSettled rules states
   pub closed : (e : ℕ) → slice_get states e ≢ Some Open
 
 -- the result of an evaluation of an entry: its answer is known, or it runs into a circle
-abbrev pub IsEvaluated : {A : Type 0} → List (Rule A) → ℕ → List (State A)
+abbrev pub IsEvaluated : {A : Type 0} → List (Rule ℕ A) → ℕ → List (State A)
     → Result (Option (Vec ℕ Global)) AllocError → Type 0
 IsEvaluated {A} rules entry states (Ok None) =
     (length states ≡ length rules) × IsSound rules states × ((a : A) × (known states entry ≡ Some a))
@@ -94,20 +95,20 @@ abbrev pub left : {A : Type 0} → List (State A) → ℕ
 left states = sum_by left_at states
 
 -- after n operands that are known, a rule reads this one
-abbrev pub ReadsAfter : {A : Type 0} → (ℕ → Option A) → ℕ → ℕ → Rule A → Type 0
+abbrev pub ReadsAfter : {A : Type 0} → (ℕ → Option A) → ℕ → ℕ → Rule ℕ A → Type 0
 ReadsAfter f operand n (Answers a) = ⊥
 ReadsAfter f operand zero (Reads next_operand next) = next_operand ≡ operand
 ReadsAfter {A} f operand (suc n) (Reads next_operand next) =
     (a : A) × (f next_operand ≡ Some a) × ReadsAfter f operand n (next a)
 
 -- the first n operands of a rule are known, and do not decide its answer yet
-abbrev pub IsPast : {A : Type 0} → (ℕ → Option A) → ℕ → Rule A → Type 0
+abbrev pub IsPast : {A : Type 0} → (ℕ → Option A) → ℕ → Rule ℕ A → Type 0
 IsPast f zero rule = Unit {0}
 IsPast f (suc n) rule = (operand : ℕ) × ReadsAfter f operand (suc n) rule
 
 -- the same of the rule of an entry
-abbrev pub IsPastAt : {A : Type 0} → List (Rule A) → (ℕ → Option A) → ℕ → ℕ → Type 0
-IsPastAt {A} rules f entry n = (rule : Rule A) → slice_get rules entry ≡ Some rule → IsPast f n rule
+abbrev pub IsPastAt : {A : Type 0} → List (Rule ℕ A) → (ℕ → Option A) → ℕ → ℕ → Type 0
+IsPastAt {A} rules f entry n = (rule : Rule ℕ A) → slice_get rules entry ≡ Some rule → IsPast f n rule
 
 -- the first n operands pass
 abbrev pub AreBefore : (ℕ → Bool) → List ℕ → ℕ → Type 0
@@ -121,7 +122,7 @@ is_given (Some (Refused fault)) = false
 is_given None = false
 
 -- an answer that has tasks
-abbrev pub has_tasks : Option Produced → Bool
+abbrev pub has_tasks : Option (Produced ℕ) → Bool
 has_tasks (Some (produced.Tasks tasks)) = true
 has_tasks (Some (produced.Refused fault)) = false
 has_tasks (Some (produced.Endless chooser)) = false

@@ -25,14 +25,17 @@ use std::alloc::{AllocError, Global};
 use std::marker::Model;
 
 /// The result that an expression has these tasks.
-fn settle(alloc: Global, found: Produced) -> Result<Reading<Shared<Produced>>, AllocError>
+fn settle(
+    alloc: Global,
+    found: Produced<usize>,
+) -> Result<Reading<usize, Shared<Produced<usize>>>, AllocError>
     ensures { IfOk result (λ settled. settled ≡ Reading.Settles found) }
 {
     Ok(Reading::Settles(Shared::new(alloc, found)?))
 }
 
 /// One task alone.
-fn one_task(alloc: Global, task: &TaskPath) -> Result<Produced, AllocError>
+fn one_task(alloc: Global, task: &TaskPath) -> Result<Produced<usize>, AllocError>
     ensures { IfOk result (λ found. found ≡ Produced.Tasks (task.now ∷ [])) }
 {
     let mut tasks = TaskPaths::new(alloc);
@@ -40,7 +43,7 @@ fn one_task(alloc: Global, task: &TaskPath) -> Result<Produced, AllocError>
     Ok(Produced::Tasks(tasks))
 }
 
-fn tasks_of(alloc: Global, value: &Value) -> Result<Produced, AllocError>
+fn tasks_of(alloc: Global, value: &Value) -> Result<Produced<usize>, AllocError>
     ensures { IfOk result (λ found. found ≡ Produced.Tasks (tasks_of value.now)) }
 {
     match value {
@@ -53,7 +56,7 @@ fn tasks_of(alloc: Global, value: &Value) -> Result<Produced, AllocError>
 fn carry_constant(
     alloc: Global,
     value: &Option<Value>,
-) -> Result<Reading<Shared<Produced>>, AllocError>
+) -> Result<Reading<usize, Shared<Produced<usize>>>, AllocError>
     ensures { IfOk result (λ found. found ≡ Reading.Settles (Produced.Tasks (constant_tasks value.now))) }
 {
     match value {
@@ -63,7 +66,10 @@ fn carry_constant(
 }
 
 /// The task of an output.
-fn carry_output(alloc: Global, task: &TaskPath) -> Result<Reading<Shared<Produced>>, AllocError>
+fn carry_output(
+    alloc: Global,
+    task: &TaskPath,
+) -> Result<Reading<usize, Shared<Produced<usize>>>, AllocError>
     ensures { IfOk result (λ found. found ≡ Reading.Settles (Produced.Tasks (task.now ∷ []))) }
 {
     settle(alloc, one_task(alloc, task)?)
@@ -71,9 +77,9 @@ fn carry_output(alloc: Global, task: &TaskPath) -> Result<Reading<Shared<Produce
 
 /// The tasks of another expression.
 fn carry(
-    states: &[State<Shared<Produced>>],
+    states: &[State<Shared<Produced<usize>>>],
     operand: usize,
-) -> Result<Reading<Shared<Produced>>, AllocError>
+) -> Result<Reading<usize, Shared<Produced<usize>>>, AllocError>
     requires { operand < length states.now }
     ensures reads { IfOk result (λ found. found ≡ reading (known states.now) (carry operand)) }
     ensures within { IfOk result (λ found. WaitsWithin (length states.now) found) }
@@ -86,9 +92,9 @@ fn carry(
 
 fn carry_all(
     alloc: Global,
-    states: &[State<Shared<Produced>>],
+    states: &[State<Shared<Produced<usize>>>],
     operands: &[usize],
-) -> Result<Reading<Shared<Produced>>, AllocError>
+) -> Result<Reading<usize, Shared<Produced<usize>>>, AllocError>
     requires { All (λ operand. operand < length states.now) operands.now }
     ensures reads { IfOk result (λ found. found ≡ reading (known states.now) (carry_all [] operands.now)) }
     ensures within { IfOk result (λ found. WaitsWithin (length states.now) found) }
@@ -105,7 +111,7 @@ fn carry_all(
 }
 
 /// Whether the tasks of an operand are known.
-fn has_tasks(states: &[State<Shared<Produced>>], operand: usize) -> bool
+fn has_tasks(states: &[State<Shared<Produced<usize>>>], operand: usize) -> bool
     requires { operand < length states.now }
     ensures { result ≡ has_tasks (known states.now operand) }
 {
@@ -116,7 +122,7 @@ fn has_tasks(states: &[State<Shared<Produced>>], operand: usize) -> bool
 }
 
 /// The first operand from here on whose tasks are not known.
-fn past_tasks(states: &[State<Shared<Produced>>], operands: &[usize], from: usize) -> usize
+fn past_tasks(states: &[State<Shared<Produced<usize>>>], operands: &[usize], from: usize) -> usize
     requires operands { All (λ operand. operand < length states.now) operands.now }
     requires before { AreBefore (λ operand. has_tasks (known states.now operand)) operands.now from }
     ensures before { AreBefore (λ operand. has_tasks (known states.now operand)) operands.now result }
@@ -133,10 +139,10 @@ fn past_tasks(states: &[State<Shared<Produced>>], operands: &[usize], from: usiz
 /// One evaluation step of operands, given that the tasks of the first ones are known.
 fn look_all(
     alloc: Global,
-    states: &[State<Shared<Produced>>],
+    states: &[State<Shared<Produced<usize>>>],
     operands: &[usize],
     past: usize,
-) -> Result<Look<Shared<Produced>>, AllocError>
+) -> Result<Look<Shared<Produced<usize>>>, AllocError>
     requires operands { All (λ operand. operand < length states.now) operands.now }
     requires past { IsPast (known states.now) past (carry_all [] operands.now) }
     ensures reads { IfOk result (λ found.
@@ -157,9 +163,9 @@ fn look_all(
 
 fn carry_property(
     alloc: Global,
-    states: &[State<Shared<Produced>>],
+    states: &[State<Shared<Produced<usize>>>],
     property: &Property,
-) -> Result<Reading<Shared<Produced>>, AllocError>
+) -> Result<Reading<usize, Shared<Produced<usize>>>, AllocError>
     requires setting { SettingWithin (length states.now) property.now.setting }
     requires convention { PlaceWithin (length states.now) property.now.convention }
     ensures reads { IfOk result (λ found.
@@ -179,11 +185,11 @@ fn carry_property(
 /// The tasks of the side that the outcome of the left selects.
 fn carry_side(
     alloc: Global,
-    states: &[State<Shared<Produced>>],
+    states: &[State<Shared<Produced<usize>>>],
     left: usize,
     right: usize,
     chooser: &Option<Shared<Outcome>>,
-) -> Result<Reading<Shared<Produced>>, AllocError>
+) -> Result<Reading<usize, Shared<Produced<usize>>>, AllocError>
     requires left { left < length states.now }
     requires right { right < length states.now }
     ensures reads { IfOk result (λ found.
@@ -205,7 +211,7 @@ fn apply<T: Transforms>(
     alloc: Global,
     call: &Call<T::FlatMap>,
     value: &Value,
-) -> Result<Produced, AllocError>
+) -> Result<Produced<usize>, AllocError>
     ensures { IfOk result (λ found.
         found ≡ chosen_tasks call.now.name
         (meaning_of T.meanings.flat_map call.now.function value.now call.now.arguments)) }
@@ -222,7 +228,7 @@ fn choose_tasks<T: Transforms>(
     source: usize,
     call: &Call<T::FlatMap>,
     chooser: &Option<Shared<Outcome>>,
-) -> Result<Produced, AllocError>
+) -> Result<Produced<usize>, AllocError>
     ensures { IfOk result (λ found. found ≡ choose_tasks T.meanings source call.now chooser.now) }
 {
     match chooser {
@@ -279,7 +285,7 @@ impl<'b, 'a, T: Transforms> TaskReader<'b, 'a, T> {
         &mut self,
         source: usize,
         call: &Call<'a, T::FlatMap>,
-    ) -> Result<Reading<Shared<Produced>>, AllocError>
+    ) -> Result<Reading<usize, Shared<Produced<usize>>>, AllocError>
         requires { source < length self.old }
         ensures reads { IfOk result (λ found.
             found ≡ Reading.Settles
@@ -296,10 +302,10 @@ impl<'b, 'a, T: Transforms> TaskReader<'b, 'a, T> {
     /// The tasks of the side that the value of the left selects.
     fn read_side(
         &mut self,
-        states: &[State<Shared<Produced>>],
+        states: &[State<Shared<Produced<usize>>>],
         left: usize,
         right: usize,
-    ) -> Result<Reading<Shared<Produced>>, AllocError>
+    ) -> Result<Reading<usize, Shared<Produced<usize>>>, AllocError>
         requires states { length states.now ≡ length self.old }
         requires left { left < length self.old }
         requires right { right < length self.old }
@@ -316,9 +322,9 @@ impl<'b, 'a, T: Transforms> TaskReader<'b, 'a, T> {
     /// One evaluation step of an expression with few operands.
     fn read(
         &mut self,
-        states: &[State<Shared<Produced>>],
+        states: &[State<Shared<Produced<usize>>>],
         node: &Expression<'a, T::Map, T::FlatMap, T::Zip>,
-    ) -> Result<Reading<Shared<Produced>>, AllocError>
+    ) -> Result<Reading<usize, Shared<Produced<usize>>>, AllocError>
         requires states { length states.now ≡ length self.old }
         requires within { OperandsWithin (length self.old) node.now }
         ensures reads { IfOk result (λ found.
@@ -342,10 +348,10 @@ impl<'b, 'a, T: Transforms> TaskReader<'b, 'a, T> {
     /// One evaluation step of an expression, which continues after its first operands.
     fn look_at(
         &mut self,
-        states: &[State<Shared<Produced>>],
+        states: &[State<Shared<Produced<usize>>>],
         node: &Expression<'a, T::Map, T::FlatMap, T::Zip>,
         past: usize,
-    ) -> Result<Look<Shared<Produced>>, AllocError>
+    ) -> Result<Look<Shared<Produced<usize>>>, AllocError>
         requires states { length states.now ≡ length self.old }
         requires within { OperandsWithin (length self.old) node.now }
         requires past { IsPast (known states.now) past (carrier T.meanings self.old node.now) }
@@ -368,16 +374,16 @@ impl<'b, 'a, T: Transforms> TaskReader<'b, 'a, T> {
 impl<'b, 'a, T: Transforms> Entries for TaskReader<'b, 'a, T> {
     ghost use Rattle.gb_provider.specs.Produced.{carriers};
 
-    type Answer = Shared<Produced>;
+    type Answer = Shared<Produced<usize>>;
 
     ghost rules = { λ nodes. carriers T.meanings nodes };
 
     fn look(
         &mut self,
-        states: &[State<Shared<Produced>>],
+        states: &[State<Shared<Produced<usize>>>],
         at: usize,
         past: usize,
-    ) -> Result<Look<Shared<Produced>>, AllocError> {
+    ) -> Result<Look<Shared<Produced<usize>>>, AllocError> {
         let nodes = self.nodes;
         self.look_at(states, &nodes[at], past)
     }

@@ -22,7 +22,7 @@ pub enum Change {
 }
 
 /// Replaces the setting of a property.
-fn put(property: &mut Property, setting: Option<Setting>)
+fn put(property: &mut Property, setting: Option<Setting<usize>>)
     ensures { property.new ≡ record property.old { setting = setting } }
 {
     property.setting = setting;

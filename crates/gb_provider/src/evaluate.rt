@@ -7,7 +7,7 @@ ghost use Rattle.gb_provider.specs.Meanings.{meaning_of};
 ghost use Rattle.gb_provider.specs.Rounds.{reading, Reads};
 ghost use Rattle.gb_provider.specs.Rules.{PlaceWithin, OperandsWithin, rule, constant, follow, or_else};
 ghost use Rattle.gb_provider.specs.Rules.{property_rule, SettingWithin, output_rule, mapped, zipped};
-ghost use Rattle.gb_provider.specs.Rules.{chosen_rule, map_rule, flat_map_rule, zip_rule};
+ghost use Rattle.gb_provider.specs.Rules.{output_place, chosen_rule, map_rule, flat_map_rule, zip_rule};
 ghost use Rattle.gb_provider.specs.Rules.{list_rule, listed, refused, RefusedAs};
 ghost use Rattle.gb_provider.specs.Search.{AreBefore, IsPast, is_given, known, WaitsWithin};
 ghost use Rattle.gb_provider.specs.declared.fault.Refusal.TheVariants.{WrongValue};
@@ -47,7 +47,7 @@ pub(crate) fn known_at<A: Drop>(states: &[State<Shared<A>>], at: usize) -> Optio
 }
 
 /// The result that an expression has this answer.
-fn settle(alloc: Global, outcome: Outcome) -> Result<Reading<Shared<Outcome>>, AllocError>
+fn settle(alloc: Global, outcome: Outcome) -> Result<Reading<usize, Shared<Outcome>>, AllocError>
     ensures { IfOk result (λ found. found ≡ Reading.Settles outcome) }
 {
     Ok(Reading::Settles(Shared::new(alloc, outcome)?))
@@ -57,7 +57,7 @@ fn settle(alloc: Global, outcome: Outcome) -> Result<Reading<Shared<Outcome>>, A
 fn read_constant(
     alloc: Global,
     value: &Option<Value>,
-) -> Result<Reading<Shared<Outcome>>, AllocError>
+) -> Result<Reading<usize, Shared<Outcome>>, AllocError>
     ensures { IfOk result (λ found. found ≡ Reading.Settles (constant value.now)) }
 {
     match value {
@@ -70,7 +70,7 @@ fn read_constant(
 fn follow(
     states: &[State<Shared<Outcome>>],
     operand: usize,
-) -> Result<Reading<Shared<Outcome>>, AllocError>
+) -> Result<Reading<usize, Shared<Outcome>>, AllocError>
     requires { operand < length states.now }
     ensures reads { IfOk result (λ found. found ≡ reading (known states.now) (follow operand)) }
     ensures within { IfOk result (λ found. WaitsWithin (length states.now) found) }
@@ -85,7 +85,7 @@ fn read_or_else(
     states: &[State<Shared<Outcome>>],
     left: usize,
     right: usize,
-) -> Result<Reading<Shared<Outcome>>, AllocError>
+) -> Result<Reading<usize, Shared<Outcome>>, AllocError>
     requires left { left < length states.now }
     requires right { right < length states.now }
     ensures reads { IfOk result (λ found. found ≡ reading (known states.now) (Reads left (or_else right))) }
@@ -102,7 +102,7 @@ fn read_property(
     alloc: Global,
     states: &[State<Shared<Outcome>>],
     property: &Property,
-) -> Result<Reading<Shared<Outcome>>, AllocError>
+) -> Result<Reading<usize, Shared<Outcome>>, AllocError>
     requires setting { SettingWithin (length states.now) property.now.setting }
     requires convention { PlaceWithin (length states.now) property.now.convention }
     ensures reads { IfOk result (λ found.
@@ -125,7 +125,7 @@ fn read_output(
     states: &[State<Shared<Outcome>>],
     chosen: &Chosen,
     declared: Option<usize>,
-) -> Result<Reading<Shared<Outcome>>, AllocError>
+) -> Result<Reading<usize, Shared<Outcome>>, AllocError>
     requires { PlaceWithin (length states.now) declared }
     ensures reads { IfOk result (λ found.
         found ≡ reading (known states.now) (output_rule chosen.now declared)) }
@@ -171,7 +171,7 @@ fn read_map<T: Transforms>(
     states: &[State<Shared<Outcome>>],
     source: usize,
     call: &Call<T::Map>,
-) -> Result<Reading<Shared<Outcome>>, AllocError>
+) -> Result<Reading<usize, Shared<Outcome>>, AllocError>
     requires { source < length states.now }
     ensures reads { IfOk result (λ found.
         found ≡ reading (known states.now) (map_rule T.meanings source call.now)) }
@@ -206,7 +206,7 @@ fn read_zip<T: Transforms>(
     left: usize,
     right: usize,
     call: &Call<T::Zip>,
-) -> Result<Reading<Shared<Outcome>>, AllocError>
+) -> Result<Reading<usize, Shared<Outcome>>, AllocError>
     requires left { left < length states.now }
     requires right { right < length states.now }
     ensures reads { IfOk result (λ found.
@@ -233,11 +233,11 @@ fn read_chosen<M, F, Z>(
     outputs: &Outputs,
     states: &[State<Shared<Outcome>>],
     reply: Option<Chosen>,
-) -> Result<Reading<Shared<Outcome>>, AllocError>
+) -> Result<Reading<usize, Shared<Outcome>>, AllocError>
     requires index { IsIndexed nodes.now outputs.now }
     requires states { length states.now ≡ length nodes.now }
     ensures reads { IfOk result (λ found.
-        found ≡ reading (known states.now) (chosen_rule nodes.now [] (Ok reply))) }
+        found ≡ reading (known states.now) (chosen_rule (output_place nodes.now) [] (Ok reply))) }
     ensures within { IfOk result (λ found. WaitsWithin (length states.now) found) }
 {
     match reply {
@@ -257,12 +257,12 @@ fn apply_flat_map<T: Transforms>(
     states: &[State<Shared<Outcome>>],
     call: &Call<T::FlatMap>,
     value: &Value,
-) -> Result<Reading<Shared<Outcome>>, AllocError>
+) -> Result<Reading<usize, Shared<Outcome>>, AllocError>
     requires index { IsIndexed nodes.now outputs.now }
     requires states { length states.now ≡ length nodes.now }
     ensures reads { IfOk result (λ found.
         found ≡ reading (known states.now)
-        (chosen_rule nodes.now call.now.name
+        (chosen_rule (output_place nodes.now) call.now.name
         (meaning_of T.meanings.flat_map call.now.function value.now call.now.arguments))) }
     ensures within { IfOk result (λ found. WaitsWithin (length states.now) found) }
 {
@@ -279,12 +279,13 @@ fn read_flat_map<T: Transforms>(
     states: &[State<Shared<Outcome>>],
     source: usize,
     call: &Call<T::FlatMap>,
-) -> Result<Reading<Shared<Outcome>>, AllocError>
+) -> Result<Reading<usize, Shared<Outcome>>, AllocError>
     requires index { IsIndexed nodes.now outputs.now }
     requires states { length states.now ≡ length nodes.now }
     requires source { source < length states.now }
     ensures reads { IfOk result (λ found.
-        found ≡ reading (known states.now) (flat_map_rule T.meanings nodes.now source call.now)) }
+        found ≡ reading (known states.now)
+        (flat_map_rule T.meanings (output_place nodes.now) source call.now)) }
     ensures within { IfOk result (λ found. WaitsWithin (length states.now) found) }
 {
     match known_at(states, source) {
@@ -317,7 +318,7 @@ fn settle_list(
     alloc: Global,
     texts: Texts,
     is_wrong: bool,
-) -> Result<Reading<Shared<Outcome>>, AllocError>
+) -> Result<Reading<usize, Shared<Outcome>>, AllocError>
     ensures { IfOk result (λ found. found ≡ Reading.Settles (listed is_wrong texts)) }
 {
     if is_wrong {
@@ -331,7 +332,7 @@ fn read_list(
     alloc: Global,
     states: &[State<Shared<Outcome>>],
     operands: &[usize],
-) -> Result<Reading<Shared<Outcome>>, AllocError>
+) -> Result<Reading<usize, Shared<Outcome>>, AllocError>
     requires { All (λ operand. operand < length states.now) operands.now }
     ensures reads { IfOk result (λ found.
         found ≡ reading (known states.now) (list_rule false [] operands.now)) }
@@ -476,7 +477,7 @@ fn read<T: Transforms>(
     outputs: &Outputs,
     states: &[State<Shared<Outcome>>],
     node: &Expression<T::Map, T::FlatMap, T::Zip>,
-) -> Result<Reading<Shared<Outcome>>, AllocError>
+) -> Result<Reading<usize, Shared<Outcome>>, AllocError>
     requires index { IsIndexed nodes.now outputs.now }
     requires states { length states.now ≡ length nodes.now }
     requires within { OperandsWithin (length nodes.now) node.now }

@@ -14,25 +14,25 @@ pub enum State<A> {
 
 /// The result of one evaluation step: an answer, or the operand to be read first.
 #[derive(Drop)]
-pub enum Reading<A> {
+pub enum Reading<K, A> {
     /// Its answer.
     Settles(A),
-    /// The number of an operand whose answer is not known yet.
-    Waits(usize),
+    /// The key of an operand whose answer is not known yet.
+    Waits(K),
 }
 
 /// One evaluation step of an expression.
 #[derive(Drop)]
 pub struct Look<A> {
     /// The answer, or the operand that it waits for.
-    pub reading: Reading<A>,
+    pub reading: Reading<usize, A>,
     /// How many operands need not be read again, if it waits for one after them.
     pub past: usize,
 }
 
 impl<A: Drop> Look<A> {
     /// A step that begins with the first operand whenever it is repeated.
-    pub fn whole(reading: Reading<A>) -> Look<A>
+    pub fn whole(reading: Reading<usize, A>) -> Look<A>
         ensures reading { result.reading ≡ reading }
         ensures past { result.past ≡ 0 }
     {

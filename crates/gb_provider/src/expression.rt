@@ -91,13 +91,13 @@ impl Operands {
     }
 }
 
-/// The setting of a property.
+/// The setting of a property; expressions are named by keys.
 #[derive(Drop)]
-pub enum Setting {
+pub enum Setting<K> {
     /// This value.
     Held(Value),
-    /// The value of the expression of this number.
-    Followed(usize),
+    /// The value of the expression of this key.
+    Followed(K),
 }
 
 /// A property of a project.
@@ -108,7 +108,7 @@ pub struct Property {
     /// Its name in that project.
     pub name: Name,
     /// Its setting, or nothing if it is not set.
-    pub setting: Option<Setting>,
+    pub setting: Option<Setting<usize>>,
     /// The expression that counts if it is not set.
     pub convention: Option<usize>,
     /// Whether it accepts no more changes (35).

@@ -11,8 +11,11 @@
 //! for one another, and 30 is reported with the names on it: of the lists that begin at each of its
 //! names in turn, the least. The only premise of a call is that a node is one of the table (`has`).
 //!
-//! [`search`] evaluates with a work list in place of a recursion, so no chain of expressions is too
-//! long, and the same search finds the tasks that produce a value. A value that was read is
+//! The definitions say this of expressions that name their operands by keys of any type. The table
+//! is the case of numbers.
+//!
+//! [`work_list`] evaluates with a work list in place of a recursion, so no chain of expressions is
+//! too long, and the same search finds the tasks that produce a value. A value that was read is
 //! remembered until a property or an output that was itself read changes, or an output is first
 //! named. A result that is handed on is shared and not copied.
 //!

@@ -28,7 +28,7 @@ fn evaluate_producers<T: Transforms>(
     nodes: &[Expression<T::Map, T::FlatMap, T::Zip>],
     outputs: &Outputs,
     values: &mut Vec<State<Shared<Outcome>>>,
-    states: &mut Vec<State<Shared<Produced>>>,
+    states: &mut Vec<State<Shared<Produced<usize>>>>,
     number: usize,
 ) -> Result<Option<Vec<usize>>, AllocError>
     requires index { IsIndexed nodes.now outputs.now }
@@ -81,7 +81,7 @@ fn report_producers<T: Transforms>(
     nodes: &[Expression<T::Map, T::FlatMap, T::Zip>],
     outputs: &Outputs,
     values: &mut Vec<State<Shared<Outcome>>>,
-    states: &[State<Shared<Produced>>],
+    states: &[State<Shared<Produced<usize>>>],
     number: usize,
 ) -> Result<TaskPaths, ProviderFault>
     requires index { IsIndexed nodes.now outputs.now }
@@ -109,7 +109,7 @@ pub(crate) fn recall_producers<T: Transforms>(
     nodes: &[Expression<T::Map, T::FlatMap, T::Zip>],
     outputs: &Outputs,
     values: &mut Vec<State<Shared<Outcome>>>,
-    states: &mut Vec<State<Shared<Produced>>>,
+    states: &mut Vec<State<Shared<Produced<usize>>>>,
     number: usize,
 ) -> Result<TaskPaths, ProviderFault>
     requires index { IsIndexed nodes.now outputs.now }

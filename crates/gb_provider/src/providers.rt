@@ -37,7 +37,7 @@ pub struct Providers<'a, T: Transforms> {
     table: &'a TransformTable<T::Map, T::FlatMap, T::Zip, T::Test>,
     nodes: Expressions<'a, T::Map, T::FlatMap, T::Zip>,
     values: Vec<State<Shared<Outcome>>>,
-    producers: Vec<State<Shared<Produced>>>,
+    producers: Vec<State<Shared<Produced<usize>>>>,
 }
 
 impl<'a, T: Transforms> Model for Providers<'a, T> {

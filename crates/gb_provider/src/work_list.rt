@@ -13,7 +13,7 @@ use std::alloc::{AllocError, Global};
 pub(crate) trait Entries {
     type Answer: Drop;
 
-    ghost rules: { Self → List (Rule Self.Answer) };
+    ghost rules: { Self → List (Rule ℕ Self.Answer) };
 
     /// One evaluation step of an entry, given the known answers, which continues after its first
     /// operands.
