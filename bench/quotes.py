@@ -2,13 +2,14 @@
 """Checks that documents agree with the repository.
 
     bench/quotes.py            fails if one of these does not hold
-    bench/quotes.py --theorem  prints the files of definitions that the theorem's clause reaches, and then
-                               the files of code whose types these name
+    bench/quotes.py --theorem  prints the files of definitions that the theorem's clause reaches, the files
+                               of code whose types these name, and the files that further clauses reach
 
 - A block ```quote FILE is in FILE, line by line and in one piece.
 - A link to a file of the repository leads to one, and one with `#` to a heading of it.
 - The block ```theorem of docs/PROOF.md has the files that the theorem's clause reaches, import by import, and
-  the block ```types the files of code whose types these name.
+  the block ```types the files of code whose types these name. The blocks ```calls, ```records and ```disk have
+  the files that those clauses reach besides.
 - The definitions that docs/DEFINITIONS.md names for each crate are there.
 - docs/CRATES.md has a section for each crate, in the order of crates.txt.
 - That page has a table for each group of crates.txt with its crates, and the table of README.md a row for
@@ -39,6 +40,13 @@ ROOTS = [
     ("gb_build", "Registering"),
     ("gb_registry", "Tables"),
 ]
+# What further clauses name: `does` and `printed` of invoke, laws of gb_build and gb_task, the laws of gb_answers,
+# and `built` of run_on_disk.
+FURTHER = {
+    "calls": [("gb_build", "Invoking"), ("gb_exec", "Building"), ("gb_printer", "Printing"), ("gb_task", "Asking")],
+    "records": [("gb_answers", "Scratch"), ("gb_answers", "Stored")],
+    "disk": [("gb_here", "OnDisk"), ("gb_answer", "Answer")],
+}
 # Headings of docs/REFERENCE.md whose tables have the words of the notation.
 WORDS_BELOW = [
     "### Statements of `build.gb`",
@@ -107,9 +115,9 @@ def by_crates(found):
     return [f"{crate}: {' '.join(rows[crate])}" for crate in crates() if crate in rows]
 
 
-def reached():
-    """The files of definitions that the theorem's clause reaches, and the files of code whose types they name."""
-    found, code, ahead = set(), set(), list(ROOTS)
+def reached(roots):
+    """The files of definitions that these reach, and the files of code whose types they name."""
+    found, code, ahead = set(), set(), list(roots)
     while ahead:
         crate, name = ahead.pop()
         path = f"crates/{crate}/specs/{name}.antt"
@@ -122,13 +130,19 @@ def reached():
 
 
 def theorem():
-    """A line for each crate: the files of the theorem, and then those of the types that they name."""
-    found, code = reached()
-    return by_crates(found), by_crates(code)
+    """By block, a line for each crate: the files of the theorem, those of the types that they name, and what further
+    clauses reach besides."""
+    found, code = reached(ROOTS)
+    lists = {"theorem": by_crates(found), "types": by_crates(code)}
+    for kind, roots in FURTHER.items():
+        more, _ = reached(roots)
+        lists[kind] = by_crates(more - found)
+        found |= more
+    return lists
 
 
 def check_theorem():
-    for kind, lines in zip(["theorem", "types"], theorem()):
+    for kind, lines in theorem().items():
         told = [block for _, other, block in blocks("docs/PROOF.md") if other == kind]
         if told != [folded(lines)]:
             faults.append(f"docs/PROOF.md: the block {kind} is that of bench/quotes.py --theorem")
@@ -261,7 +275,7 @@ def check_definitions():
 
 def main(words):
     if words == ["--theorem"]:
-        for lines in theorem():
+        for lines in theorem().values():
             print("\n".join(folded(lines)))
         return 0
     for path in DOCS:

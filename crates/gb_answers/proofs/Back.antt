@@ -2,9 +2,10 @@
 use Rattle.std.specs.Prelude.{◌≡◌, ◌≤◌, ◌⊎◌, ◌++◌, false, List, [], ◌∷◌, Some, Ok, Err, length}
 use Rattle.std.proofs.Common.{refl, sym, subst, ap, ◌∙◌, inl, inr}
 use Rattle.gb_folder.specs.Answers.{WereListed, WereRead}
-use Rattle.gb_folder.specs.Calls.{Call, Lists, Reads, ReadsPart, Writes, Removes, IsPermitted, IsReachedBy, Requests, fault_of, no_change, none, then, Device}
+use Rattle.gb_folder.specs.Calls.{Call, Lists, Reads, ReadsPart, Writes, Removes, IsReachedBy, Requests, fault_of, no_change, none, then, Device}
 use Rattle.gb_folder.specs.Files.{Bytes, Contents, Place, Tearing, file_at, is_special_under, places_under}
 use Rattle.gb_folder.specs.Limits.{max_file}
+use Rattle.gb_folder.proofs.Known.{reading_keeps}
 use Rattle.gb_folder.specs.Semantics.{Answers, AnswersAll}
 use Rattle.gb_folder.specs.declared.folder.FolderFault.{FolderFault}
 use Rattle.gb_folder.specs.declared.folder.FolderFault.TheVariants as folders
@@ -19,15 +20,6 @@ pub record AreAnswersOf {F : Type 0} (allowed : F → Call → F → Type 0) (le
   pub sound : (state : F) (contents : Contents) → Shows state contents → IsSound contents
   pub back : (old : F) (call : Call) (new : F) (after : Contents) → allowed old call new → Shows new after
       → (before : Contents) × Shows old before × Answers leaves before call after
-
--- a call that requests no change leaves the contents as they are
-reading_keeps : (leaves : Tearing) (before after : Contents) (call : Call) → IsPermitted no_change call → Answers leaves before call after → after ≡ before
-unfolding no_change
-reading_keeps leaves before after (Lists root answer) permitted answers = answers.1
-reading_keeps leaves before after (Reads place limit answer) permitted answers = answers.1
-reading_keeps leaves before after (ReadsPart place at len answer) permitted answers = answers.1
-reading_keeps leaves before after (Writes place bytes limit answer) permitted answers = absurd permitted
-reading_keeps leaves before after (Removes place answer) permitted answers = absurd permitted
 
 module _ {F : Type 0} (device : Device F) (leaves : Tearing) (Shows : F → Contents → Type 0)
     (are : AreAnswersOf device.allowed leaves Shows) where
@@ -45,7 +37,7 @@ module _ {F : Type 0} (device : Device F) (leaves : Tearing) (Shows : F → Cont
   pub listed_in : (old new : F) (contents : Contents) → Shows new contents → (root : Place) (places : List Place) → WereListed device old new root places
       → (places ≡ places_under contents.files root) × (is_special_under contents root ≡ false)
   listed_in old new contents shows root places way =
-      let from = are.back way.before (Lists root (Ok places)) way.after contents way.is (back_unchanged way.after new contents way.rest shows) in (
+      let from = are.back way.before (Lists root (Ok places)) way.after contents way.is.allowed (back_unchanged way.after new contents way.rest shows) in (
         from.2.0.0 ∙ ap (λ (c : Contents). places_under c.files root) (sym from.2.1),
         ap (λ (c : Contents). is_special_under c root) from.2.1 ∙ from.2.0.1,
       )
@@ -54,7 +46,7 @@ module _ {F : Type 0} (device : Device F) (leaves : Tearing) (Shows : F → Cont
   pub read_in : (old new : F) (contents : Contents) → Shows new contents → (place : Place) (bytes : Bytes) → WereRead device old new place bytes
       → (file_at contents.files place ≡ Some bytes) × (length bytes ≤ max_file)
   read_in old new contents shows place bytes way =
-      let from = are.back way.before (Reads place max_file (Ok bytes)) way.after contents way.is (back_unchanged way.after new contents way.rest shows) in
+      let from = are.back way.before (Reads place max_file (Ok bytes)) way.after contents way.is.allowed (back_unchanged way.after new contents way.rest shows) in
       (ap (λ (c : Contents). file_at c.files place) from.2.1 ∙ from.2.0.0, from.2.0.1)
 
   -- calls that led to contents came from contents that answer them

@@ -84,11 +84,11 @@ module _ {F : Type 0} (device : Device F) (leaves : Tearing) (Shows : F → Cont
       → (file_at contents.files place ≡ found) × (is_blocked contents.files place ≡ false)
   found_in place None found =
       let way = found.1 in
-      let from = are.back way.before (Reads place found.0 (Err folders.Missing)) way.after contents way.is (back_unchanged device leaves Shows are way.after new contents way.rest shows) in
+      let from = are.back way.before (Reads place found.0 (Err folders.Missing)) way.after contents way.is.allowed (back_unchanged device leaves Shows are way.after new contents way.rest shows) in
       (ap (λ (c : Contents). file_at c.files place) from.2.1 ∙ from.2.0.0, ap (λ (c : Contents). is_blocked c.files place) from.2.1 ∙ from.2.0.1)
   found_in place (Some bytes) found =
       let way = found.1 in
-      let from = are.back way.before (Reads place found.0 (Ok bytes)) way.after contents way.is (back_unchanged device leaves Shows are way.after new contents way.rest shows) in
+      let from = are.back way.before (Reads place found.0 (Ok bytes)) way.after contents way.is.allowed (back_unchanged device leaves Shows are way.after new contents way.rest shows) in
       let exists : file_at contents.files place ≡ Some bytes = ap (λ (c : Contents). file_at c.files place) from.2.1 ∙ from.2.0.0 in
       (exists, free_at contents.files place bytes (are.sound new contents shows).folder exists)
 

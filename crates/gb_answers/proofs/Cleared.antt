@@ -22,9 +22,9 @@ use Rattle.gb_plan.specs.declared.task.TaskDeclaration.{TaskDeclaration as Task}
 use Rattle.gb_plan.proofs.Tests.{itself}
 use Rattle.gb_records.specs.Called.{Deletion, Storing, deletion_ending}
 use Rattle.gb_records.specs.declared.fault.Unwritten.{Unwritten}
-use Rattle.gb_store.specs.Changes.{is_at}
-use Rattle.gb_store.specs.Removals.{Removal, Removals, removal_ending}
-use Rattle.gb_store.proofs.Emptied.{blocked_none, emptied as emptied_files, without_none}
+use Rattle.gb_folder.specs.Changes.{is_at}
+use Rattle.gb_folder.specs.Removals.{Removal, Removals, removal_ending}
+use Rattle.gb_folder.proofs.Emptied.{blocked_none, emptied as emptied_files, without_none}
 use Rattle.gb_run.specs.Doing.{Ending, OrEnds}
 use Rattle.gb_run.specs.Emptying.{Emptying, IsFound, Listing, places_at}
 use Rattle.gb_run.proofs.Changed.{changes_of}

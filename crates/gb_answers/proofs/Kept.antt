@@ -99,7 +99,7 @@ module _ {F : Type 0} (device : Device F) (log : F → List Call) (keeps : LogsC
   -- so is one on the way
   pub has_on_way : (final : List Call) (call : Call) (old new : F) → fault_of call ≡ None → IsOnWay device call old new → IsWithin final new → Contains final call
   has_on_way final call old new well way within =
-      has_call final way.before call way.after way.is well (within_requests final way.after new way.rest within)
+      has_call final way.before call way.after way.is.allowed well (within_requests final way.after new way.rest within)
 
   -- and each that went well, of calls that were made
   pub each_kept : (final : List Call) (old : F) (calls : List Call) (new : F) → Leads device old calls new → IsWithin final new

@@ -56,7 +56,7 @@ use Rattle.gb_run.specs.Doing.{Ending, OrEnds}
 use Rattle.gb_run.specs.Emptying.{Emptying, Listing}
 use Rattle.gb_run.specs.Work.{AreAtOutputs}
 use Rattle.gb_run.proofs.Fitting.{all_fitting}
-use Rattle.gb_store.specs.Removals.{Removal, Removals}
+use Rattle.gb_folder.specs.Removals.{Removal, Removals}
 use Rattle.gb_task.specs.Buildable.{IsBuildable}
 use Rattle.gb_task.specs.ByOutcome.{ExecutionRequests, since_after}
 use Rattle.gb_task.specs.Current.{IsCurrentOn, IsReportedCurrent}

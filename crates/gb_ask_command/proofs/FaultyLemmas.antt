@@ -12,7 +12,7 @@ use Rattle.gb_registry.specs.declared.first_fault.FaultAt.{FaultAt}
 use Rattle.gb_report.specs.declared.fault.Fault.{Fault}
 use Rattle.gb_report.specs.declared.fault.Fault.TheVariants as faults
 use Rattle.gb_script.specs.declared.script.Statement.{Statement}
-use Rattle.gb_store.specs.Faults.{IsOfMachine}
+use Rattle.gb_folder.specs.Faults.{IsOfMachine}
 use Rattle.gb_ask_command.specs.Faulty.{IsFaultless, IsFaulty, IsTextFault}
 use Rattle.gb_build.proofs.OneLemmas.{folders_one}
 use Rattle.gb_build.specs.Scripts.{FolderSays, ScriptsSay, SettingsSay, script_places}

@@ -17,7 +17,7 @@ use Rattle.gb_registry.specs.Source.{Source}
 use Rattle.gb_registry.specs.Tables.{Tables}
 use Rattle.gb_report.specs.declared.fault.Fault.{Fault}
 use Rattle.gb_report.specs.declared.fault.Fault.TheVariants as faults
-use Rattle.gb_store.proofs.Machine.{machine_before}
+use Rattle.gb_folder.proofs.Machine.{machine_before}
 use Rattle.gb_ask_command.specs.Graph.{IsDrawing}
 use Rattle.gb_ask_command.specs.Replies.{AreRead, IsGraphReply, IsReplyAbout, IsReplyOf, IsStatusReply}
 use Rattle.gb_ask_command.specs.Reply.{Reply}

@@ -33,7 +33,7 @@ use Rattle.gb_report.specs.Fault.{fault_number}
 use Rattle.gb_report.specs.declared.fault.Fault.{Fault}
 use Rattle.gb_report.specs.declared.fault.Fault.TheVariants as faults
 use Rattle.gb_script.specs.declared.script.Statement.{Statement}
-use Rattle.gb_store.specs.Faults.{IsOfMachine}
+use Rattle.gb_folder.specs.Faults.{IsOfMachine}
 use Rattle.gb_ask_command.specs.CheckJson.{check_data}
 use Rattle.gb_ask_command.specs.Reply.{Reply}
 use Rattle.gb_ask_command.specs.Unread.{unread_values}

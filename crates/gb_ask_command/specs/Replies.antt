@@ -20,7 +20,7 @@ use Rattle.gb_registry.specs.Source.{Source}
 use Rattle.gb_registry.specs.Tables.{Tables}
 use Rattle.gb_report.specs.declared.fault.Fault.{Fault}
 use Rattle.gb_report.specs.declared.fault.Fault.TheVariants as faults
-use Rattle.gb_store.specs.Faults.{IsOfMachine}
+use Rattle.gb_folder.specs.Faults.{IsOfMachine}
 use Rattle.gb_ask_command.specs.Graph.{IsDrawing}
 use Rattle.gb_ask_command.specs.Reply.{Reply}
 use Rattle.gb_ask_command.specs.declared.words.Style.{Style}

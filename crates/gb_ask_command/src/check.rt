@@ -13,7 +13,7 @@ ghost use Rattle.gb_registry.specs.Read.{IsRead};
 ghost use Rattle.gb_registry.specs.SoFar.{scripts_in};
 ghost use Rattle.gb_registry.specs.Tables.{tables_of};
 ghost use Rattle.gb_script.specs.declared.script.Statement.{Statement};
-ghost use Rattle.gb_store.specs.Faults.{IsOfMachine};
+ghost use Rattle.gb_folder.specs.Faults.{IsOfMachine};
 ghost use Rattle.gb_check.specs.All.{AreFindings};
 ghost use Rattle.gb_check.specs.Found.{findings_text};
 ghost use Rattle.gb_check.specs.Sites.{HasTextFault, IsUnread, script_of_project};

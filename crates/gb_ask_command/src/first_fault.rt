@@ -2,7 +2,7 @@
 ghost use Rattle.std.specs.Prelude.{◌⊎◌, ◌≡◌, IfErr, IfOk, MatchOption};
 ghost use Rattle.gb_folder.specs.Calls.{OnlyReads};
 ghost use Rattle.gb_registry.specs.Tables.{tables_of};
-ghost use Rattle.gb_store.specs.Faults.{IsOfMachine};
+ghost use Rattle.gb_folder.specs.Faults.{IsOfMachine};
 ghost use Rattle.gb_ask_command.specs.Faulty.{IsFaultless, IsFaulty, IsTextFault};
 
 use gb_action::actions::Actions;

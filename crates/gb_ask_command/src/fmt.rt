@@ -12,7 +12,7 @@ ghost use Rattle.gb_folder.specs.Files.{is_empty};
 ghost use Rattle.gb_printer.specs.Printing.{Prints};
 ghost use Rattle.gb_report.specs.Report.{line};
 ghost use Rattle.gb_ask_command.specs.Fmt.{Formats, FormatsAt, IsText, IsTreated, Replaces, Shows, Treats};
-ghost use Rattle.gb_ask_command.specs.Fmt.{TreatsText, answer_at, bytes_in, end_text, ended_of, fault_at};
+ghost use Rattle.gb_ask_command.specs.Fmt.{TreatsText, answer_at, bytes_in, end_text, fault_at};
 ghost use Rattle.gb_ask_command.specs.Fmt.{fault_in, fmt_status, heading, is_headed, is_input, is_settings};
 ghost use Rattle.gb_ask_command.specs.Fmt.{may_write, mode_as, named_after, script_in, string_in};
 
@@ -20,6 +20,7 @@ use crate::words::Mode;
 use gb_answer::answer::refusal_text;
 use gb_core::place::{Place, PlaceFault};
 use gb_core::text::Text;
+use gb_folder::faults::fault_of;
 use gb_folder::folder::{Folder, FolderFault};
 use gb_format::{format_script, format_settings};
 use gb_picture::shown::push_shown;
@@ -27,7 +28,6 @@ use gb_printer::printer::Printer;
 use gb_report::fault::Fault;
 use gb_script::MAX_SCRIPT;
 use gb_script::fault::ScriptFault;
-use gb_store::faults::fault_of;
 use std::alloc::{AllocError, Global};
 
 /// Processes the named files of a folder, one after another, up to the first that cannot be

@@ -6,7 +6,7 @@ use Rattle.gb_meaning.specs.Headline.{HasFailed, answer_of, is_of_device, times_
 use Rattle.gb_report.specs.declared.fault.Fault.{Fault}
 use Rattle.gb_report.specs.declared.fault.Fault.TheVariants as faults
 use Rattle.gb_report.specs.declared.report.Report.{Report}
-use Rattle.gb_store.specs.Faults.{Blames}
+use Rattle.gb_folder.specs.Faults.{Blames}
 
 abbrev RefusedFails : Fault → ℕ → ℕ → Type 0
 RefusedFails fault before after = HasFailed (times_blamed (answer_of (Err fault))) before after

@@ -4,7 +4,7 @@ use Rattle.std.proofs.Common.{arith, refl, sym, subst, inl, inr}
 use Rattle.gb_meaning.specs.declared.events.Answer.{Answer}
 use Rattle.gb_meaning.specs.Headline.{HasFailed, times_blamed, times_blamed_in_all}
 use Rattle.gb_report.specs.declared.fault.Fault.TheVariants as faults
-use Rattle.gb_store.specs.Faults.{Blames}
+use Rattle.gb_folder.specs.Faults.{Blames}
 use Rattle.gb_build.specs.Answers.{Edit, edit_answer}
 use Rattle.gb_build.proofs.Blamed.{risen_once}
 

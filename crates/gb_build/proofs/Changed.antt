@@ -17,7 +17,7 @@ use Rattle.gb_plan.specs.declared.task.Output.{Output}
 use Rattle.gb_plan.specs.declared.task.TaskDeclaration.{TaskDeclaration as Task}
 use Rattle.gb_plan.proofs.Tests.{left_of, neither, no_longer, none_left, none_right, not_false, not_true, or_right, right_of}
 use Rattle.gb_records.proofs.Reported.{texts_are_records}
-use Rattle.gb_store.specs.Changes.{ChangesOnly, is_at}
+use Rattle.gb_folder.specs.Changes.{ChangesOnly, is_at}
 use Rattle.gb_tree.proofs.Under.{IsUnder, under_parts}
 use Rattle.gb_task.specs.Executing.{is_of_execution}
 use Rattle.gb_task.proofs.Own.{kept_at}

@@ -7,11 +7,11 @@ use Rattle.gb_folder.specs.declared.folder.FolderFault.TheVariants as folders
 use Rattle.gb_folder.specs.Limits.{max_file}
 use Rattle.gb_report.specs.declared.fault.Fault.{Fault}
 use Rattle.gb_report.specs.declared.fault.Fault.TheVariants as faults
-use Rattle.gb_store.specs.Changes.{IsCutShort, is_at, without_all}
-use Rattle.gb_store.specs.Faults.{IsOfMachine, reported_at}
-use Rattle.gb_store.proofs.Emptied.{emptied_place}
-use Rattle.gb_store.proofs.Machine.{machine_before}
-use Rattle.gb_store.proofs.Removing.{hindered_before}
+use Rattle.gb_folder.specs.Changes.{IsCutShort, is_at, without_all}
+use Rattle.gb_folder.specs.Faults.{IsOfMachine, reported_at}
+use Rattle.gb_folder.proofs.Emptied.{emptied_place}
+use Rattle.gb_folder.proofs.Machine.{machine_before}
+use Rattle.gb_folder.proofs.Removing.{hindered_before}
 use Rattle.gb_meaning.specs.Edits.{IsNoListing, LossStep, PutStep, RemoveStep, Shown, own_place}
 use Rattle.gb_build.specs.Answers.{Edit, edit_answer}
 

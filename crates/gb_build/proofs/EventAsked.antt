@@ -18,7 +18,7 @@ use Rattle.gb_folder.specs.Limits.{max_file}
 use Rattle.gb_folder.specs.Semantics.{Answer as Answered}
 use Rattle.gb_folder.proofs.Leading.{calls_in, leads_on, leads_once}
 use Rattle.gb_meaning.specs.declared.events.Answer.TheVariants as answers
-use Rattle.gb_build.proofs.InvocationAsked.{invocation_calls}
+use Rattle.gb_build.proofs.InvocationAsked.{any_change, calls_keep, invocation_calls}
 
 module _ {F M N Z S A : Type 0} (device : Device F) (tables : Tables M N Z S A) where
   pub requests_more_events : (all : List Event) (reported : List Answer) (event : Event) (answer : Answer) (old mid new : F) → length all ≡ length reported
@@ -62,3 +62,11 @@ module _ {F M N Z S A : Type 0} (device : Device F) (tables : Tables M N Z S A) 
   events_calls [] [] old new same = ([], same)
   events_calls [] (answer ∷ others) old new same = ([], same)
   events_calls (event ∷ rest) [] old new same = ([], same)
+
+  -- ---- What they keep
+
+  pub event_keeps : (event : Event) (answer : Answer) (old new : F) → EventRequests device tables event answer old new → Requests device any_change old new
+  event_keeps event answer old new made = calls_keep device old new (event_calls event answer old new made)
+
+  pub events_keep : (all : List Event) (reported : List Answer) (old new : F) → EventsRequest device tables all reported old new → Requests device any_change old new
+  events_keep all reported old new made = calls_keep device old new (events_calls all reported old new made)

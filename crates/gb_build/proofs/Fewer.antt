@@ -1,5 +1,5 @@
 -- Contents that were read before and are in the folder need not be counted twice.
-use Rattle.std.specs.Prelude.{◌≡◌, ◌||◌, ◌++◌, List, [], ◌∷◌}
+use Rattle.std.specs.Prelude.{◌++◌, List, [], ◌∷◌}
 use Rattle.std.proofs.Common.{inl, inr}
 use Rattle.gb_folder.specs.Files.{Bytes}
 use Rattle.gb_meaning.specs.Label.{Moment}

@@ -8,7 +8,7 @@ use Rattle.gb_report.specs.declared.fault.Fault.{Fault}
 use Rattle.gb_report.specs.declared.fault.Fault.TheVariants as faults
 use Rattle.gb_script.specs.declared.fault.ScriptFault.{ScriptFault}
 use Rattle.gb_script.specs.declared.fault.ScriptFault.TheVariants as scripts
-use Rattle.gb_store.specs.Faults.{IsOfMachine}
+use Rattle.gb_folder.specs.Faults.{IsOfMachine}
 use Rattle.gb_folder.proofs.Free.{free_at}
 use Rattle.gb_build.specs.Texts.{FileSays, Reports, TextSays, unread_at}
 

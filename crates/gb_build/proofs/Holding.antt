@@ -31,7 +31,7 @@ use Rattle.gb_report.specs.declared.fault.Fault.{Fault}
 use Rattle.gb_report.specs.declared.fault.Fault.TheVariants as faults
 use Rattle.gb_report.specs.declared.report.Options.{Options}
 use Rattle.gb_report.specs.declared.report.Report.{Report}
-use Rattle.gb_store.specs.Changes.{ChangesOnly}
+use Rattle.gb_folder.specs.Changes.{ChangesOnly}
 use Rattle.gb_task.specs.Executing.{Registering, setting_with}
 use Rattle.gb_exec.specs.Building.{is_of_executions}
 use Rattle.gb_exec.specs.Built.{AreTrueBefore, HasBuilt}

@@ -9,8 +9,8 @@ use Rattle.gb_meaning.specs.Edits.{PutStep, RemoveStep, Shown}
 use Rattle.gb_meaning.specs.Headline.{EventKeeps, RefusedEditKeeps, Registering}
 use Rattle.gb_report.specs.declared.fault.Fault.{Fault}
 use Rattle.gb_report.specs.declared.fault.Fault.TheVariants as faults
-use Rattle.gb_store.specs.Changes.{ChangesOnly}
-use Rattle.gb_store.proofs.Machine.{changes_left, changes_none}
+use Rattle.gb_folder.specs.Changes.{ChangesOnly}
+use Rattle.gb_folder.proofs.Machine.{changes_left, changes_none}
 use Rattle.gb_build.proofs.Outside.{itself, same_either_way}
 
 -- a refusal that changed nothing

@@ -26,7 +26,7 @@ use Rattle.gb_records.specs.Said.{IsText}
 use Rattle.gb_records.proofs.Holding.{at_left}
 use Rattle.gb_records.proofs.Reported.{holds_for_memory, texts_are_records}
 use Rattle.gb_report.specs.declared.fault.Fault.{Fault}
-use Rattle.gb_store.specs.Changes.{IsCutShort, without_all}
+use Rattle.gb_folder.specs.Changes.{IsCutShort, without_all}
 use Rattle.gb_plan.specs.Task.{Path, has_path}
 use Rattle.gb_build.specs.Leading.{IsTransition}
 use Rattle.gb_build.proofs.Fewer.{are_among}

@@ -15,8 +15,8 @@ use Rattle.gb_meaning.specs.Kinds.{Kinds}
 use Rattle.gb_meaning.specs.Memory.{Memory}
 use Rattle.gb_meaning.specs.TrueRecord.{memory_contents}
 use Rattle.gb_records.proofs.Reported.{holds_elsewhere, holds_for_memory}
-use Rattle.gb_store.specs.Changes.{ChangesOnly}
-use Rattle.gb_store.proofs.Machine.{changes_left, changes_none, changes_with, changes_without}
+use Rattle.gb_folder.specs.Changes.{ChangesOnly}
+use Rattle.gb_folder.proofs.Machine.{changes_left, changes_none, changes_with, changes_without}
 use Rattle.gb_build.specs.Leading.{IsTransition}
 use Rattle.gb_build.proofs.Leading.{observed_more}
 use Rattle.gb_records.specs.Setting.{setting_by}

@@ -2,6 +2,7 @@
 use Rattle.std.specs.Prelude.{ℕ, ◌≡◌, List, [], ◌∷◌, Option, Some, None, Result, Ok, Err, IfOk, MatchResult}
 use Rattle.std.proofs.Common.{ap, ◌∙◌}
 use Rattle.gb_folder.specs.Calls.{Reads, Requests, no_change, Device}
+use Rattle.gb_folder.specs.Device.{IsCalled}
 use Rattle.gb_folder.specs.Files.{Bytes, Place}
 use Rattle.gb_folder.specs.declared.folder.FolderFault.TheVariants as folders
 use Rattle.gb_folder.proofs.Answering.{on_longer_way, on_way_here}
@@ -40,13 +41,13 @@ module _ {F : Type 0} {device : Device F} where
 module _ {F : Type 0} (device : Device F) where
   -- a text that was read here
   pub parsed_here : {X : Type 0} (SaysAs : Bytes → Result (List X) ScriptFault → Type 0) (old new : F) (place : Place) (limit : ℕ) (bytes : Bytes) (Else : Fault → Type 0) (result : Result (List X) Fault)
-      → device.allowed old (Reads place limit (Ok bytes)) new → MatchResult result (λ said. SaysAs bytes (Ok said)) Else → IfOk result (WasParsed device SaysAs old new place)
+      → IsCalled device old (Reads place limit (Ok bytes)) new → MatchResult result (λ said. SaysAs bytes (Ok said)) Else → IfOk result (WasParsed device SaysAs old new place)
   parsed_here SaysAs old new place limit bytes Else (Ok said) is says = (Some bytes, (limit, on_way_here is), says)
   parsed_here SaysAs old new place limit bytes Else (Err fault) is says = tt
 
   -- there was no file
   pub none_here : {X : Type 0} (SaysAs : Bytes → Result (List X) ScriptFault → Type 0) (old new : F) (place : Place) (limit : ℕ) (said : List X)
-      → device.allowed old (Reads place limit (Err folders.Missing)) new → said ≡ [] → WasParsed device SaysAs old new place said
+      → IsCalled device old (Reads place limit (Err folders.Missing)) new → said ≡ [] → WasParsed device SaysAs old new place said
   none_here SaysAs old new place limit said is none = (None, (limit, on_way_here is), ap Ok none)
 
   -- what the texts that were parsed declare, where nothing is wrong with it

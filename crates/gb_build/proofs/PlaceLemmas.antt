@@ -16,7 +16,7 @@ use Rattle.gb_folder.specs.Files.{Place}
 use Rattle.gb_registry.proofs.Fine.{AreFine, both_true, fits, is_fine, projects_fine, short_enough}
 use Rattle.gb_registry.proofs.Folders.{folder_is_place}
 use Rattle.gb_registry.specs.Projects.{Path, folder_of, folder_text, project_paths, projects_of, root_path, settings_faults, with_folders}
-use Rattle.gb_store.specs.Changes.{is_at}
+use Rattle.gb_folder.specs.Changes.{is_at}
 use Rattle.gb_build.specs.Scripts.{is_script_place, script_place, script_places}
 
 -- ---- Such a place ends in the name of scripts

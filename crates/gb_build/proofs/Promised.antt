@@ -1,12 +1,11 @@
 -- What an invocation does, from the parts of it.
-use Rattle.std.proofs.Common.{◌≡◌, ◌≤◌, ◌∷◌, [], true, Result, Err, IfErr, IfOk, IsTrue, OnErr, subst, sym}
+use Rattle.std.proofs.Common.{◌≡◌, ◌≤◌, ◌∷◌, [], true, Result, Err, IfErr, IsTrue, OnErr, subst, sym}
 use Rattle.gb_folder.specs.Calls.{Requests, no_change, Device}
 use Rattle.gb_folder.specs.Files.{Place, Tearing}
 use Rattle.gb_meaning.specs.Edits.{Shown}
 use Rattle.gb_meaning.specs.Events.{IsNotBuilt, is_read_first}
 use Rattle.gb_meaning.specs.Headline.{EventKeeps, HasFailed, answer_of, times_blamed}
 use Rattle.gb_meaning.specs.Kinds.{Kinds}
-use Rattle.gb_meaning.specs.Outline.{IsOutlined}
 use Rattle.gb_meaning.specs.declared.events.Event.TheVariants as events
 use Rattle.gb_meaning.specs.declared.events.Invocation.{Invocation}
 use Rattle.gb_meaning.proofs.Lemmas.Plain.{headline}
@@ -65,11 +64,6 @@ module _ {F M N Z S A : Type 0} (device : Device F) (tables : Tables M N Z S A) 
       record {
         requests = asked;
         calls = invocation_calls device tables invocation result old new asked;
-        dry_run = subst (λ (r : Result Report Fault). IfOk r (λ report. report.dry_run ≡ invocation.options.dry_run)) (sym is) tt;
-        outlined = subst (λ (r : Result Report Fault). IfOk r (IsOutlined invocation)) (sym is) tt;
         places = of_fault (λ (f : Fault). (place : Place) → f ≡ faults.Device place → IsTrue (is_read_first invocation.options place)) result fault is places;
         blame = blamed;
-        count = requests.count;
-        tearing = requests.tearing;
-        back = requests.back;
       }

@@ -11,9 +11,9 @@ use Rattle.gb_plan.specs.Task.{Path}
 use Rattle.gb_plan.specs.declared.plan.Planned.{Planned}
 use Rattle.gb_records.proofs.Reported.{texts_are_records}
 use Rattle.gb_report.specs.declared.fault.Fault.{Fault}
-use Rattle.gb_store.specs.Changes.{is_at}
-use Rattle.gb_store.specs.Faults.{BlamesOnly, IsOfMachine}
-use Rattle.gb_store.proofs.Machine.{among_passes}
+use Rattle.gb_folder.specs.Changes.{is_at}
+use Rattle.gb_folder.specs.Faults.{BlamesOnly, IsOfMachine}
+use Rattle.gb_folder.proofs.Machine.{among_passes}
 use Rattle.gb_build.specs.Refusing.{IsUnread}
 
 -- ---- Nothing more

@@ -14,7 +14,7 @@ use Rattle.gb_registry.specs.Source.{Source}
 use Rattle.gb_registry.specs.Tables.{Tables}
 use Rattle.gb_build.proofs.OwnLemmas.{own_say_nothing}
 use Rattle.gb_build.specs.Scripts.{FolderSays, is_script_place}
-use Rattle.gb_store.specs.Faults.{BlamesOnly, IsOfMachine}
+use Rattle.gb_folder.specs.Faults.{BlamesOnly, IsOfMachine}
 use Rattle.gb_declare.specs.Registered.{registry_said}
 use Rattle.gb_build.specs.Registering.{registers_in}
 

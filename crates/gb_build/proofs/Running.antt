@@ -1,6 +1,5 @@
 -- Runs of events, one event more at a time.
-use Rattle.std.specs.Prelude.{ℕ, ◌≡◌, ◌≤◌, ◌<◌, ◌++◌, ◌⊎◌, Bool, true, false, IfOk, IsTrue, List, [], ◌∷◌, Err, Ok, Result, length, suc, take, zero, ⊤}
-use Rattle.std.specs.List.{AllZip}
+use Rattle.std.specs.Prelude.{ℕ, ◌≡◌, ◌≤◌, ◌<◌, ◌++◌, ◌⊎◌, Bool, true, false, IsTrue, List, [], ◌∷◌, length, suc, take, zero, ⊤}
 use Rattle.std.proofs.Common.{arith, refl, sym, ap, subst, ◌∙◌, inl, inr, append_assoc}
 use Rattle.std.proofs.lemmas.List.{append-nil, length-take-le}
 use Rattle.std.proofs.Math.Seq.{take-nil}
@@ -8,21 +7,15 @@ use Rattle.gb_folder.specs.Files.{Bytes, Contents}
 use Rattle.gb_meaning.specs.declared.events.Answer.{Answer}
 use Rattle.gb_meaning.specs.declared.events.Answer.TheVariants as answers
 use Rattle.gb_meaning.specs.declared.events.Event.{Event}
-use Rattle.gb_meaning.specs.declared.events.Event.TheVariants as events
-use Rattle.gb_meaning.specs.declared.events.Invocation.{Invocation}
 use Rattle.gb_meaning.specs.Edits.{Shown}
 use Rattle.gb_meaning.specs.Events.{Setting, State, world_in}
-use Rattle.gb_meaning.specs.Headline.{AllKeepElsewhere, Ear, EventKeeps, EventsHold, GoesThrough, HaveHeardAll, Registering, RunHolds, StillClear, answer_of, contents_outside, observed_with, state_of}
+use Rattle.gb_meaning.specs.Headline.{AllKeepElsewhere, Ear, EventKeeps, EventsHold, GoesThrough, HaveHeardAll, Registering, RunHolds, StillClear, contents_outside, observed_with, state_of}
 use Rattle.gb_meaning.specs.Memory.{Memory}
-use Rattle.gb_meaning.specs.Outline.{IsOutlined}
-use Rattle.gb_report.specs.declared.fault.Fault.{Fault}
-use Rattle.gb_report.specs.declared.report.Report.{Report}
 use Rattle.gb_meaning.specs.TrueRecord.{memory_contents}
 use Rattle.gb_exec.proofs.Clearly.{clear_or_not}
 use Rattle.gb_plan.proofs.Tests.{not_true}
 use Rattle.gb_build.specs.Leading.{IsTransition, HoldsObserved}
 use Rattle.gb_build.proofs.Leading.{observed_more, step_weaker}
-use Rattle.gb_build.specs.Answers.{AnswerIsOutlined, Edit, edit_answer}
 
 -- ---- Runs
 
@@ -115,29 +108,6 @@ heard_more (answers.Edited ∷ reported) answer old mid new heard more = heard_m
 heard_more (answers.Refused fault ∷ reported) answer old mid new heard more = heard_more reported answer old mid new heard more
 heard_more (answers.Built report ∷ reported) answer old mid new heard more = (heard.0, heard.1, heard_more reported answer heard.0 mid new heard.2 more)
 heard_more (answers.NotBuilt fault ∷ reported) answer old mid new heard more = heard_more reported answer old mid new heard more
-
--- ---- The answers over any folder
-
-pub outlined_more : (all : List Event) (reported : List Answer) (event : Event) (answer : Answer) → AllZip AnswerIsOutlined all reported → AnswerIsOutlined event answer
-    → AllZip AnswerIsOutlined (all ++ event ∷ []) (reported ++ answer ∷ [])
-outlined_more [] [] event answer outlined more = (more, tt)
-outlined_more [] (a ∷ reported) event answer outlined more = absurd outlined
-outlined_more (e ∷ all) [] event answer outlined more = absurd outlined
-outlined_more (e ∷ all) (a ∷ reported) event answer outlined more = (outlined.0, outlined_more all reported event answer outlined.1 more)
-
-pub report_outlined : (invocation : Invocation) (result : Result Report Fault) → IfOk result (IsOutlined invocation) → AnswerIsOutlined (events.Invoke invocation) (answer_of result)
-report_outlined invocation (Ok report) outlined = outlined
-report_outlined invocation (Err fault) outlined = tt
-
-pub edit_outlined : (event : Event) (edit : Edit) → AnswerIsOutlined event (edit_answer edit)
-edit_outlined (events.Put place bytes) (Ok done) = tt
-edit_outlined (events.Put place bytes) (Err fault) = tt
-edit_outlined (events.Remove place) (Ok done) = tt
-edit_outlined (events.Remove place) (Err fault) = tt
-edit_outlined events.Lost (Ok done) = tt
-edit_outlined events.Lost (Err fault) = tt
-edit_outlined (events.Invoke invocation) (Ok done) = tt
-edit_outlined (events.Invoke invocation) (Err fault) = tt
 
 -- ---- Lists, one element more
 

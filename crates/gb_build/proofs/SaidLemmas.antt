@@ -11,7 +11,7 @@ use Rattle.gb_registry.specs.Source.{Source, source_of}
 use Rattle.gb_registry.specs.Tables.{Tables}
 use Rattle.gb_script.specs.Script.{SaysAsSettings}
 use Rattle.gb_script.specs.declared.script.Statement.{Statement}
-use Rattle.gb_store.specs.Faults.{IsOfMachine}
+use Rattle.gb_folder.specs.Faults.{IsOfMachine}
 use Rattle.gb_build.specs.Scripts.{FolderSays, ScriptsSay, script_places, settings_place}
 use Rattle.gb_build.specs.Texts.{TextSays}
 

@@ -1,5 +1,5 @@
 -- The calls that events make, over any folder.
-use Rattle.std.specs.Prelude.{◌≡◌, ◌⊎◌, List, [], ◌∷◌, Result, Ok}
+use Rattle.std.specs.Prelude.{◌≡◌, ◌⊎◌, List, ◌∷◌, Ok}
 use Rattle.gb_folder.specs.Calls.{Requests, Call, Removes, Writes, no_change, takes_at, Device}
 use Rattle.gb_folder.specs.Device.{IsCalled}
 use Rattle.gb_folder.specs.Files.{is_own}

@@ -1,14 +1,13 @@
 -- What one invocation does: over any folder, and where the contents of the folder are known.
-use Rattle.std.specs.Prelude.{◌≡◌, ◌≤◌, List, ◌∷◌, [], true, Result, IfErr, IfOk, IsTrue, OnErr}
+use Rattle.std.specs.Prelude.{◌≡◌, List, ◌∷◌, [], true, Result, IfErr, IsTrue, OnErr}
 use Rattle.gb_folder.specs.Calls.{Call, Device}
 use Rattle.gb_folder.specs.Device.{Leads}
-use Rattle.gb_folder.specs.Files.{Place, SameTearing, Tearing}
+use Rattle.gb_folder.specs.Files.{Place, Tearing}
 use Rattle.gb_meaning.specs.Edits.{Shown}
 use Rattle.gb_meaning.specs.Events.{IsNotBuilt, is_read_first}
 use Rattle.gb_meaning.specs.Every.{PromiseHolds}
 use Rattle.gb_meaning.specs.Headline.{EventKeeps, HasFailed, InvocationHolds, answer_of, times_blamed}
 use Rattle.gb_meaning.specs.Kinds.{Kinds}
-use Rattle.gb_meaning.specs.Outline.{IsOutlined}
 use Rattle.gb_meaning.specs.declared.events.Event.TheVariants as events
 use Rattle.gb_meaning.specs.declared.events.Invocation.{Invocation}
 use Rattle.gb_records.specs.Assumed.{IsAssumed}
@@ -23,24 +22,19 @@ use Rattle.gb_build.specs.Registering.{registers_in, setting_of}
 -- Over any folder: the calls of an invocation, and what its answer may be.
 pub record IsInvocation {F M N Z S A : Type 0} (device : Device F) (tables : Tables M N Z S A)
     (invocation : Invocation) (answer : Result Report Fault) (old new : F) : Type 0 where
-  -- The plan is that of the scripts that calls returned. A write or a removal is requested only at or under
-  -- an output of a task of this plan or at the record of one, and the text of such a record is that of a run
-  -- of the task. A refused build and a dry run request none.
+  -- The report is that of a plan of what was requested of the scripts that calls returned: which of its tasks
+  -- start, and which outcomes each may have, is as `Outlines` says. A write or a removal is requested only at
+  -- or under an output of a task of this plan or at the record of one, and the text of such a record is that
+  -- of a run of the task. A refused build and a dry run request none.
   pub requests : InvocationRequests device tables invocation answer old new
-  -- These are a list of calls, with their answers, which lead from the folder before to the folder after.
+  -- These are a list of calls, with their answers, which lead from the folder before to the folder after. So
+  -- the count of failures does not fall, what a stopped call may leave stays the same, and contents that are
+  -- known at the end were known at the beginning (`calls_keep`).
   pub calls : (calls : List Call) × Leads device old calls new
-  pub dry_run : IfOk answer (λ report. report.dry_run ≡ invocation.options.dry_run)
-  -- For some registry, the report is that of the plan of the request. Which of its tasks start, and which
-  -- outcomes each may have, is as `Outlines` says.
-  pub outlined : IfOk answer (IsOutlined invocation)
   -- A refusal that is attributed to the device (10) names a place that may be read before the first task:
   -- `settings.gb`, one whose last segment is `build.gb`, or, except in a dry run, one in `.gb`.
   pub places : IfErr answer (λ fault. (place : Place) → fault ≡ faults.Device place
       → IsTrue (is_read_first invocation.options place))
-  pub count : device.failures old ≤ device.failures new
-  pub tearing : SameTearing (device.may_leave old) (device.may_leave new)
-  -- If the contents are known at the end, they were known at the beginning.
-  pub back : device.faithful new → device.faithful old
   -- Faults are attributed to the device no more often than it failed, as long as the folder's count of
   -- failures is below 2^64 - 1, the last value that it can have.
   pub blame : HasFailed (times_blamed (answer_of answer)) (device.failures old) (device.failures new)

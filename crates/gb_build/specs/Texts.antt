@@ -8,7 +8,7 @@ use Rattle.gb_report.specs.declared.fault.Fault.{Fault}
 use Rattle.gb_report.specs.declared.fault.Fault.TheVariants as faults
 use Rattle.gb_script.specs.declared.fault.ScriptFault.{ScriptFault}
 use Rattle.gb_script.specs.declared.fault.ScriptFault.TheVariants as scripts
-use Rattle.gb_store.specs.Faults.{IsOfMachine, reported_at}
+use Rattle.gb_folder.specs.Faults.{IsOfMachine, reported_at}
 
 -- a fault of a text, with the place of its file
 abbrev pub in_file : Place → ScriptFault → Fault

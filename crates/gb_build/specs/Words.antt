@@ -1,6 +1,5 @@
 -- The definitions that the contracts of builds use.
 pub use Rattle.gb_action.specs.Meanings.{Meanings}
-pub use Rattle.gb_build.specs.Answers.{AnswerIsOutlined}
 pub use Rattle.gb_build.specs.EventAsked.{EventRequests, EventsRequest}
 pub use Rattle.gb_folder.specs.Files.{Bytes, Contents, SameTearing}
 pub use Rattle.gb_graph.specs.Answer.{IsPlanOf, IsRefusalOf}
@@ -19,7 +18,6 @@ pub use Rattle.gb_meaning.specs.Headline.{HoldsMemory, TornWritesAreDetected, an
 pub use Rattle.gb_meaning.specs.Headline.{times_blamed_in_all}
 pub use Rattle.gb_meaning.specs.Kinds.{Kind, Kinds}
 pub use Rattle.gb_meaning.specs.Memory.{Memory}
-pub use Rattle.gb_meaning.specs.Outline.{IsOutlined}
 pub use Rattle.gb_meaning.specs.Scratch.{from_scratch}
 pub use Rattle.gb_meaning.specs.declared.events.Answer.{Answer}
 pub use Rattle.gb_meaning.specs.declared.events.Event.{Event}

@@ -5,7 +5,7 @@ ghost use Rattle.std.specs.Option.{option_copied};
 ghost use Rattle.gb_core.specs.Place.{is_place};
 ghost use Rattle.gb_folder.specs.Calls.{OnlyReads};
 ghost use Rattle.gb_script.specs.Script.{Says};
-ghost use Rattle.gb_store.specs.Faults.{Blames, BlamesOnly, IsOfMachine};
+ghost use Rattle.gb_folder.specs.Faults.{Blames, BlamesOnly, IsOfMachine};
 ghost use Rattle.gb_build.specs.Found.{WasParsed, WereParsed};
 ghost use Rattle.gb_build.specs.Scripts.{ScriptsSay, is_script_place, script_place, script_places};
 ghost use Rattle.gb_build.specs.Texts.{Reports, TextSays};

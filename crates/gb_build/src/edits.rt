@@ -4,21 +4,21 @@ ghost use Rattle.gb_folder.specs.Files.{SameTearing, is_own};
 ghost use Rattle.gb_folder.specs.Calls.{Removes, Requests, WhereKnown, Writes, takes_at};
 ghost use Rattle.gb_folder.specs.Limits.{max_file};
 ghost use Rattle.gb_meaning.specs.Edits.{LossStep, PutStep, RemoveStep, own_place};
-ghost use Rattle.gb_store.specs.Changes.{ChangesOnly};
-ghost use Rattle.gb_store.specs.Faults.{Blames};
+ghost use Rattle.gb_folder.specs.Changes.{ChangesOnly};
+ghost use Rattle.gb_folder.specs.Faults.{Blames};
 ghost use Rattle.gb_build.specs.EventAsked.{RequestsOnce};
 ghost use Rattle.gb_build.specs.Answers.{edit_answer};
 
 use gb_core::bytes::Bytes;
 use gb_core::place::Place;
 use gb_folder::calls;
+use gb_folder::faults::fault_of;
 use gb_folder::folder::Folder;
 use gb_folder::limits::MAX_FILE;
+use gb_folder::listing::listed_at;
 use gb_folder::own::is_own;
+use gb_folder::removal::remove_all;
 use gb_report::fault::Fault;
-use gb_store::faults::fault_of;
-use gb_store::listing::listed_at;
-use gb_store::removal::remove_all;
 use std::alloc::Global;
 
 /// Writes a file, and replaces one that exists there (fault 94 at or under `.gb`; faults 12 and

@@ -1,7 +1,5 @@
 //! Any list of edits and builds.
-ghost use Rattle.std.specs.Prelude.{◌≡◌, ◌≤◌, [], ◌∷◌, IfOk, OnErr, length, map};
-ghost use Rattle.std.specs.List.{AllZip};
-ghost use Rattle.gb_folder.specs.Files.{SameTearing};
+ghost use Rattle.std.specs.Prelude.{◌≡◌, [], ◌∷◌, IfOk, OnErr, length, map};
 ghost use Rattle.gb_meaning.specs.Every.{PromiseHolds};
 ghost use Rattle.gb_meaning.specs.Headline.{AllKeepElsewhere, EventKeeps, EventsHold, HaveHeardAll};
 ghost use Rattle.gb_meaning.specs.Headline.{HasFailed, answer_of, times_blamed};
@@ -12,7 +10,7 @@ ghost use Rattle.gb_registry.specs.Tables.{tables_of};
 ghost use Rattle.gb_build.specs.Registering.{registers_in, setting_of};
 ghost use Rattle.gb_build.specs.Leading.{IsTransition};
 ghost use Rattle.gb_build.specs.EventAsked.{EventRequests, EventsRequest};
-ghost use Rattle.gb_build.specs.Answers.{AnswerIsOutlined, edit_answer};
+ghost use Rattle.gb_build.specs.Answers.{edit_answer};
 
 use crate::edits::{lose, put, remove};
 use crate::invoking::invoke;
@@ -37,15 +35,12 @@ pub fn run_events<A: Actions, T: Transforms, F: Folder, L: TaskListener>(
     events: &[Event],
     listeners: &mut Vec<L>,
 ) -> Result<Vec<Answer>, AllocError>
-    ensures count { F.device.failures folder.old ≤ F.device.failures folder.new }
-    ensures back { F.device.faithful folder.new → F.device.faithful folder.old }
     ensures unbegun { OnErr result (folder.new ≡ folder.old) }
     ensures unnotified { OnErr result (listeners.new ≡ listeners.old) }
-    ensures tearing { SameTearing (F.device.may_leave folder.old) (F.device.may_leave folder.new) }
     // Over any folder: an edit makes at most one call, at its own place, and a loss removes files in
     // `.gb` alone. A build requests a write or a removal only at or under an output of a task of its
     // plan or at the record of one, and the text of such a record is that of a run of the task. A
-    // refused build and a dry run request none.
+    // refused build and a dry run request none. By `events_are_calls` these are a list of calls.
     ensures requests { IfOk result (λ answers. EventsRequest F.device
         (tables_of T.meanings A.meanings tables.now) events.now answers.items folder.old folder.new) }
     // One answer for each event.
@@ -58,9 +53,6 @@ pub fn run_events<A: Actions, T: Transforms, F: Folder, L: TaskListener>(
     // Each listener was notified of the builds, one after another.
     ensures heard { IfOk result (λ answers.
         HaveHeardAll answers.items (map L.ear listeners.old.items) (map L.ear listeners.new.items)) }
-    // Over any folder: each build is that of a plan of what was requested of some registry. Each
-    // task of this plan starts, and has an outcome, as the outline permits.
-    ensures outlined { IfOk result (λ answers. AllZip AnswerIsOutlined events.now answers.items) }
     // Whatever fails, a build changes nothing but `.gb` and the build folders of its projects.
     ensures elsewhere { F.device.faithful folder.new → IfOk result (λ answers.
         AllKeepElsewhere (registers_in (tables_of T.meanings A.meanings tables.now)) events.now answers.items
@@ -100,16 +92,12 @@ fn take<A: Actions, T: Transforms, F: Folder, L: TaskListener>(
     event: &Event,
     listeners: &mut Vec<L>,
 ) -> Answer
-    ensures count { F.device.failures folder.old ≤ F.device.failures folder.new }
-    ensures back { F.device.faithful folder.new → F.device.faithful folder.old }
-    ensures tearing { SameTearing (F.device.may_leave folder.old) (F.device.may_leave folder.new) }
     ensures requests { EventRequests F.device
         (tables_of T.meanings A.meanings tables.now) event.now result folder.old folder.new }
     ensures device { HasFailed (times_blamed result) (F.device.failures folder.old)
         (F.device.failures folder.new) }
     ensures heard { HaveHeardAll (result ∷ []) (map L.ear listeners.old.items)
         (map L.ear listeners.new.items) }
-    ensures outlined { AnswerIsOutlined event.now result }
     ensures keeps { F.device.faithful folder.new
         → EventKeeps (registers_in (tables_of T.meanings A.meanings tables.now)) event.now result
         (F.device.contents folder.old) (F.device.contents folder.new) }

@@ -2,12 +2,11 @@
 ghost use Rattle.std.specs.Prelude.{◌≡◌, ◌≤◌, ◌&&◌, ℕ, List, Ok, map, not, true, IfErr};
 ghost use Rattle.std.specs.Prelude.{IfOk, IsTrue, OnErr, OnOk};
 ghost use Rattle.gb_declare.specs.Registered.{registry_said};
-ghost use Rattle.gb_folder.specs.Files.{SameTearing, is_own};
+ghost use Rattle.gb_folder.specs.Files.{is_own};
 ghost use Rattle.gb_meaning.specs.declared.events.Event.TheVariants as events;
 ghost use Rattle.gb_meaning.specs.Headline.{HaveHeard, KeepsElsewhere};
 ghost use Rattle.gb_meaning.specs.Headline.{HasFailed, answer_of, times_blamed};
 ghost use Rattle.gb_meaning.specs.Kinds.{Kinds};
-ghost use Rattle.gb_meaning.specs.Outline.{IsOutlined};
 ghost use Rattle.gb_plan.specs.Graph.{IsRegistry};
 ghost use Rattle.gb_printer.specs.Printing.{Prints, parts_text};
 ghost use Rattle.gb_records.specs.Assumed.{IsAssumed};
@@ -86,19 +85,15 @@ fn build_registered<A: Actions, T: Transforms, F: Folder, L: TaskListener, P: Pr
     listeners: &mut Vec<L>,
     printer: &mut P,
 ) -> Result<Report, Fault>
-    ensures dry_run { IfOk result (λ report. report.dry_run ≡ invocation.now.options.dry_run) }
-    ensures back { F.device.faithful folder.new → F.device.faithful folder.old }
     ensures heard { IfOk result (λ report.
         HaveHeard report (map L.ear listeners.old.items) (map L.ear listeners.new.items)) }
     ensures unnotified { OnErr result (listeners.new ≡ listeners.old) }
     ensures printed { IfOk result (λ report.
         Prints P.contents P.whole (parts_text report) printer.old printer.new) }
     ensures unprinted { OnErr result (printer.new ≡ printer.old) }
-    ensures count { F.device.failures folder.old ≤ F.device.failures folder.new }
     // Faults are attributed to the device no more often than it failed.
     ensures device { HasFailed (times_blamed (answer_of result))
         (F.device.failures folder.old) (F.device.failures folder.new) }
-    ensures tearing { SameTearing (F.device.may_leave folder.old) (F.device.may_leave folder.new) }
     ensures requests { let tables = tables_of T.meanings A.meanings configured.now.tables.now in
         BuildRequests F.device A.meanings configured.now.tables.now.actions
         (registry_said tables configured.now.registry) invocation.now result folder.old folder.new }
@@ -106,7 +101,6 @@ fn build_registered<A: Actions, T: Transforms, F: Folder, L: TaskListener, P: Pr
         OnOk result (IsRegistry (registry_said tables configured.now.registry)
         × AreBuildable A.meanings configured.now.tables.now.actions
         (registry_said tables configured.now.registry)) }
-    ensures outlined { IfOk result (IsOutlined invocation.now) }
     ensures places { IfErr result (λ fault. (place : List ℕ) → fault ≡ Fault.Device place
         → IsTrue (is_own place && not invocation.now.options.dry_run)) }
     ensures not_begun { let tables = tables_of T.meanings A.meanings configured.now.tables.now in

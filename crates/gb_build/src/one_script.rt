@@ -1,20 +1,20 @@
 //! Reads the texts of settings and scripts from their files.
-ghost use Rattle.std.specs.Prelude.{◌≡◌, ◌⊎◌, Some, Ok, Err, IfOk, MatchResult, length};
+ghost use Rattle.std.specs.Prelude.{◌≡◌, ◌⊎◌, Some, Ok, Err, IfOk, MatchResult};
 ghost use Rattle.gb_folder.specs.Calls.{OnlyReads};
 ghost use Rattle.gb_script.specs.Script.{Says, SaysAsSettings};
-ghost use Rattle.gb_store.specs.Changes.{is_at};
-ghost use Rattle.gb_store.specs.Faults.{Blames, BlamesOnly};
+ghost use Rattle.gb_folder.specs.Changes.{is_at};
+ghost use Rattle.gb_folder.specs.Faults.{Blames, BlamesOnly};
 ghost use Rattle.gb_build.specs.Found.{WasParsed};
 ghost use Rattle.gb_build.specs.Texts.{FileSays, Reports, TextSays, in_file, unread_at};
 
 use gb_core::place::Place;
 use gb_folder::calls::read;
+use gb_folder::faults::fault_of;
 use gb_folder::folder::{Folder, FolderFault};
 use gb_report::fault::Fault;
 use gb_script::fault::ScriptFault;
 use gb_script::script::{Script, Settings};
 use gb_script::{MAX_SCRIPT, read_script, read_settings};
-use gb_store::faults::fault_of;
 use std::alloc::Global;
 
 /// Reads the settings at a place. Where no file exists, they include nothing.

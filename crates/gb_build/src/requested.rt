@@ -1,16 +1,14 @@
 //! One build of what is requested.
 ghost use Rattle.std.specs.Prelude.{◌≡◌, ◌≤◌, Ok, map, true, IfErr, IfOk, OnErr};
 ghost use Rattle.gb_folder.specs.Calls.{WhereKnown};
-ghost use Rattle.gb_folder.specs.Files.{SameTearing};
 ghost use Rattle.gb_meaning.specs.declared.events.Event.TheVariants as events;
 ghost use Rattle.gb_meaning.specs.Headline.{HasFailed, HaveHeard, InvocationHolds};
 ghost use Rattle.gb_meaning.specs.Headline.{answer_of, is_of_build, times_blamed};
 ghost use Rattle.gb_meaning.specs.Kinds.{Kinds};
-ghost use Rattle.gb_meaning.specs.Outline.{IsOutlinedBy};
 ghost use Rattle.gb_meaning.specs.TrueRecord.{outside};
 ghost use Rattle.gb_printer.specs.Printing.{Prints, parts_text};
 ghost use Rattle.gb_records.specs.Assumed.{IsAssumed};
-ghost use Rattle.gb_store.specs.Changes.{ChangesOnly};
+ghost use Rattle.gb_folder.specs.Changes.{ChangesOnly};
 ghost use Rattle.gb_task.specs.Executing.{Registering, setting_with};
 ghost use Rattle.gb_build.specs.RequestAsked.{BuildRequests};
 ghost use Rattle.gb_build.specs.Asking.{AreBuildable, IsReportOf, NoneBlameDevice};
@@ -48,11 +46,7 @@ pub fn build_requested<A: Actions, F: Folder, L: TaskListener, P: Printer, Ts: T
 ) -> Result<Report, Fault>
     requires { AreBuildable A.meanings table.now (Ts.registry tasks.old) }
     ensures kept { Ts.registry tasks.new ≡ Ts.registry tasks.old }
-    ensures back { F.device.faithful folder.new → F.device.faithful folder.old }
-    ensures dry_run { IfOk result (λ report. report.dry_run ≡ invocation.now.options.dry_run) }
     ensures of_plan { IfOk result (IsReportOf (Ts.registry tasks.old) invocation.now) }
-    // Over any folder: which tasks start, and which outcomes are possible for each.
-    ensures outlined { IfOk result (IsOutlinedBy (Ts.registry tasks.old) invocation.now) }
     ensures not_begun { IfErr result (IsNotBegun (Ts.registry tasks.old) invocation.now
         (F.device.failures folder.old) (F.device.failures folder.new)) }
     ensures heard { IfOk result (λ report.
@@ -62,14 +56,13 @@ pub fn build_requested<A: Actions, F: Folder, L: TaskListener, P: Printer, Ts: T
     ensures printed { IfOk result (λ report.
         Prints P.contents P.whole (parts_text report) printer.old printer.new) }
     ensures unprinted { OnErr result (printer.new ≡ printer.old) }
-    ensures count { F.device.failures folder.old ≤ F.device.failures folder.new }
     // Faults are attributed to the device no more often than it failed, if no script's fault is
     // attributed to it.
     ensures device { NoneBlameDevice (Ts.registry tasks.old)
         → HasFailed (times_blamed (answer_of result)) (F.device.failures folder.old)
         (F.device.failures folder.new) }
-    ensures tearing { SameTearing (F.device.may_leave folder.old) (F.device.may_leave folder.new) }
-    // Over any folder: which changes it requests, and which records it stores.
+    // Over any folder: which tasks start, which outcomes are possible for each, which changes it
+    // requests, and which records it stores.
     ensures requests { BuildRequests F.device A.meanings table.now
         (Ts.registry tasks.old)
         invocation.now result folder.old folder.new }

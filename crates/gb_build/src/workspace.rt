@@ -3,8 +3,8 @@ ghost use Rattle.std.specs.Prelude.{◌≡◌, ◌⊎◌, Ok, Err, IfOk, MatchRe
 ghost use Rattle.gb_folder.specs.Calls.{OnlyReads};
 ghost use Rattle.gb_registry.specs.Tables.{tables_of};
 ghost use Rattle.gb_script.specs.Script.{SaysAsSettings};
-ghost use Rattle.gb_store.specs.Changes.{is_at};
-ghost use Rattle.gb_store.specs.Faults.{Blames, BlamesOnly, IsOfMachine};
+ghost use Rattle.gb_folder.specs.Changes.{is_at};
+ghost use Rattle.gb_folder.specs.Faults.{Blames, BlamesOnly, IsOfMachine};
 ghost use Rattle.gb_build.specs.Found.{IsDeclared, WasParsed};
 ghost use Rattle.gb_build.specs.Scripts.{FolderSays, is_script_place, settings_place};
 ghost use Rattle.gb_build.specs.Texts.{Reports, TextSays};

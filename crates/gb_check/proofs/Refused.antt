@@ -13,8 +13,8 @@ use Rattle.gb_script.specs.Script.{Says}
 use Rattle.gb_script.specs.declared.fault.ScriptFault.{ScriptFault}
 use Rattle.gb_script.specs.declared.fault.ScriptFault.TheVariants as texts
 use Rattle.gb_script.specs.declared.script.Statement.{Statement}
-use Rattle.gb_store.proofs.Machine.{machine_before}
-use Rattle.gb_store.specs.Faults.{IsOfMachine}
+use Rattle.gb_folder.proofs.Machine.{machine_before}
+use Rattle.gb_folder.specs.Faults.{IsOfMachine}
 use Rattle.gb_check.specs.Sites.{HasTextFault, IsUnread, blocked, in_file, no_place, no_script, script_of_project, unread_at}
 
 -- what holds of a fault that is returned holds of the result

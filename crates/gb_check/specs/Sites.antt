@@ -17,7 +17,7 @@ use Rattle.gb_script.specs.declared.fault.ScriptFault.{ScriptFault}
 use Rattle.gb_script.specs.declared.fault.ScriptFault.TheVariants as texts
 use Rattle.gb_script.specs.declared.script.Statement.{Statement}
 use Rattle.gb_script.specs.declared.script.Statement.TheVariants as statements
-use Rattle.gb_store.specs.Faults.{reported_at}
+use Rattle.gb_folder.specs.Faults.{reported_at}
 use Rattle.gb_check.specs.Marks.{Lines, first_lines, marks_of, other_lines, script_scope}
 use Rattle.gb_check.specs.declared.clause_lines.ClauseMark.{ClauseMark}
 use Rattle.gb_check.specs.declared.sites.Site.{Site}

@@ -4,7 +4,7 @@ ghost use Rattle.std.specs.List.{flat_map, list_any};
 ghost use Rattle.gb_core.specs.Place.{overlaps};
 ghost use Rattle.gb_folder.specs.Calls.{OnlyReads};
 ghost use Rattle.gb_folder.specs.Files.{is_empty, is_special_under, places_under};
-ghost use Rattle.gb_store.specs.Faults.{IsOfMachine};
+ghost use Rattle.gb_folder.specs.Faults.{IsOfMachine};
 ghost use Rattle.gb_check.specs.Findings.{warning};
 ghost use Rattle.gb_check.specs.Warnings.{bare_root, bare_roots, is_bare};
 
@@ -13,10 +13,10 @@ use crate::places::{Rooted, all_outputs, all_roots};
 use crate::sites::Site;
 use gb_core::place::Place;
 use gb_folder::calls::list;
+use gb_folder::faults::fault_at;
 use gb_folder::folder::{Folder, FolderFault};
 use gb_plan::task::TaskDeclaration;
 use gb_report::fault::Fault;
-use gb_store::faults::fault_at;
 use std::alloc::{AllocError, Global};
 
 /// A warning for each root of a file property with nothing at it and under it, unless a task makes

@@ -5,7 +5,7 @@ ghost use Rattle.std.specs.Option.{option_copied};
 ghost use Rattle.gb_folder.specs.Calls.{OnlyReads};
 ghost use Rattle.gb_plan.specs.Refusal.{word_faults};
 ghost use Rattle.gb_registry.specs.SoFar.{scripts_in};
-ghost use Rattle.gb_store.specs.Faults.{IsOfMachine};
+ghost use Rattle.gb_folder.specs.Faults.{IsOfMachine};
 ghost use Rattle.gb_check.specs.DefaultWords.{AreAtDefaults, AreDefaultsFound, IsDefaultsSpot};
 ghost use Rattle.gb_check.specs.DefaultWords.{defaults_line, fault_at, is_root, line_after};
 ghost use Rattle.gb_check.specs.Sites.{AreLinesAt, HasTextFault, IsUnread, script_of_project};

@@ -3,7 +3,7 @@ ghost use Rattle.std.specs.Prelude.{◌≡◌, ◌⊎◌, [], ◌∷◌, ◌++�
 ghost use Rattle.std.specs.Prelude.{codes, false};
 ghost use Rattle.std.specs.Option.{option_copied};
 ghost use Rattle.gb_core.specs.Path.{task_in};
-ghost use Rattle.gb_core.specs.Place.{is_place, joined};
+ghost use Rattle.gb_core.specs.Place.{is_place};
 ghost use Rattle.gb_folder.specs.Calls.{OnlyReads};
 ghost use Rattle.gb_declare.specs.Declaring.{scope_in};
 ghost use Rattle.gb_registry.specs.SoFar.{scripts_in};
@@ -12,7 +12,7 @@ ghost use Rattle.gb_report.specs.declared.fault.Fault.TheVariants.{OutOfMemory};
 ghost use Rattle.gb_script.specs.Lines.{AreLinesOf};
 ghost use Rattle.gb_script.specs.Script.{Says};
 ghost use Rattle.gb_script.specs.declared.fault.ScriptFault.{ScriptFault};
-ghost use Rattle.gb_store.specs.Faults.{IsOfMachine};
+ghost use Rattle.gb_folder.specs.Faults.{IsOfMachine};
 ghost use Rattle.gb_check.specs.Marks.{Lines, first_lines, marks_of, other_lines, script_scope};
 ghost use Rattle.gb_check.specs.Sites.{AreLinesAt, AreSites, HasTextFault, IsUnread, in_file};
 ghost use Rattle.gb_check.specs.Sites.{registered_at, script_of_project, sites_of, unread_at};
@@ -24,6 +24,7 @@ use gb_core::path::{ProjectPath, TaskPath};
 use gb_core::place::{Place, PlaceFault};
 use gb_core::text::Text;
 use gb_folder::calls::read;
+use gb_folder::faults::fault_at;
 use gb_folder::folder::{Folder, FolderFault};
 use gb_project::properties::properties_of;
 use gb_provider::transforms::Transforms;
@@ -37,7 +38,6 @@ use gb_report::fault::Fault;
 use gb_script::fault::ScriptFault;
 use gb_script::script::Statement;
 use gb_script::{MAX_SCRIPT, StatementLines, read_script_lines};
-use gb_store::faults::fault_at;
 use std::alloc::Global;
 
 /// A registered task, and the statement that registers it.

@@ -1,7 +1,7 @@
 //! Where a statement of a script is.
 ghost use Rattle.std.specs.Prelude.{◌≡◌, ◌⊎◌, IfErr, IfOk};
 ghost use Rattle.gb_folder.specs.Calls.{OnlyReads};
-ghost use Rattle.gb_store.specs.Faults.{IsOfMachine};
+ghost use Rattle.gb_folder.specs.Faults.{IsOfMachine};
 ghost use Rattle.gb_check.specs.Sites.{HasTextFault, script_of_project};
 ghost use Rattle.gb_check.specs.Statement.{IsStatementSpot, line_of_statement};
 

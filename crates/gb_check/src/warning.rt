@@ -3,7 +3,7 @@ ghost use Rattle.std.specs.Prelude.{◌≡◌, IfErr, IfOk};
 ghost use Rattle.gb_folder.specs.Calls.{OnlyReads};
 ghost use Rattle.gb_plan.specs.Graph.{paths_of};
 ghost use Rattle.gb_registry.specs.SoFar.{scripts_in};
-ghost use Rattle.gb_store.specs.Faults.{IsOfMachine};
+ghost use Rattle.gb_folder.specs.Faults.{IsOfMachine};
 ghost use Rattle.gb_check.specs.Warnings.{AreWarnings, declared_warnings};
 
 use crate::bare::warn_bare;

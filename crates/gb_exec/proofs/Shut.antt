@@ -22,7 +22,7 @@ use Rattle.gb_report.specs.declared.fault.Fault.{Fault}
 use Rattle.gb_report.specs.declared.fault.Fault.TheVariants as faults
 use Rattle.gb_report.specs.declared.report.Options.{Options}
 use Rattle.gb_report.specs.declared.report.TaskReport.{TaskReport}
-use Rattle.gb_store.specs.Changes.{ChangesOnly, is_at}
+use Rattle.gb_folder.specs.Changes.{ChangesOnly, is_at}
 use Rattle.gb_task.specs.Executing.{Registering, is_of_execution, setting_with}
 use Rattle.gb_task.proofs.Own.{blocked_where, false_if, kept_at, not_in_own_way}
 use Rattle.gb_task.proofs.Parts.{blocked_by_own}

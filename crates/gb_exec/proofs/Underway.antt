@@ -27,7 +27,7 @@ use Rattle.gb_report.specs.declared.report.Options.{Options}
 use Rattle.gb_report.specs.declared.report.Outcome.{Outcome}
 use Rattle.gb_report.specs.declared.report.TaskReport.{TaskReport}
 use Rattle.gb_exec.proofs.ByNumber.{any_flat}
-use Rattle.gb_store.specs.Changes.{ChangesOnly}
+use Rattle.gb_folder.specs.Changes.{ChangesOnly}
 use Rattle.gb_task.specs.Executing.{Registering, setting_with}
 use Rattle.gb_task.proofs.Parts.{narrowed}
 use Rattle.gb_exec.specs.Building.{is_of_executions}

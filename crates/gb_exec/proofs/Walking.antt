@@ -4,18 +4,13 @@ use Rattle.std.specs.List.{AllByRecursion, AllZip, list_any}
 use Rattle.std.proofs.Common.{zero, suc, refl, sym, ap, subst, ◌∙◌, arith, drop, take, get_or, take-append-drop}
 use Rattle.std.proofs.lemmas.List.{drop_more, length-drop, length-map, take_more}
 use Rattle.std.proofs.lemmas.Option.{get_or_from_slice_get, slice_get_within}
-use Rattle.gb_folder.specs.Files.{Contents, Files, Place, are_placed, files_where}
+use Rattle.gb_folder.specs.Files.{Files, Place, are_placed, files_where}
 use Rattle.gb_core.specs.Place.{is_place}
 use Rattle.gb_meaning.proofs.Common.{none_some, some_same}
 use Rattle.gb_plan.specs.Graph.{no_repeats, order}
 use Rattle.gb_plan.specs.Task.{Path, has_path}
 use Rattle.gb_plan.specs.declared.plan.Planned.{Planned}
-use Rattle.gb_plan.proofs.Tests.{any_append, left_of, no_longer, or_right, right_of}
-use Rattle.gb_store.specs.Changes.{ChangesOnly}
-use Rattle.gb_store.proofs.Machine.{changes_chain}
-use Rattle.gb_task.specs.Executing.{is_of_execution}
-use Rattle.gb_task.proofs.Parts.{widened}
-use Rattle.gb_exec.specs.Building.{is_of_executions}
+use Rattle.gb_plan.proofs.Tests.{left_of, no_longer, right_of}
 
 -- ---- Lists
 
@@ -72,15 +67,6 @@ once_after (p ∷ prefix) rest planned e =
     once_after prefix rest planned (right_of (not (has_path (order (prefix ++ planned ∷ rest)) p.task.path)) (no_repeats (order (prefix ++ planned ∷ rest))) e)
 
 -- ---- Changes
-
-pub changes_more : (prefix : List Planned) (planned : Planned) (old now next : Contents) → ChangesOnly (is_of_executions prefix) old now → ChangesOnly (is_of_execution planned.task) now next
-    → ChangesOnly (is_of_executions (prefix ++ planned ∷ [])) old next
-changes_more prefix planned old now next before here =
-    let all = is_of_executions (prefix ++ planned ∷ []) in
-    changes_chain all old now next
-    (widened (is_of_executions prefix) all (λ q e. any_append (λ (p : Planned). is_of_execution p.task q) prefix (planned ∷ []) ∙ ap (λ b. b || list_any (λ (p : Planned). is_of_execution p.task q) (planned ∷ [])) e) old now before)
-    (widened (is_of_execution planned.task) all
-    (λ q e. any_append (λ (p : Planned). is_of_execution p.task q) prefix (planned ∷ []) ∙ or_right (is_of_executions prefix q) (is_of_execution planned.task q || false) (ap (λ b. b || false) e)) now next here)
 
 pub placed_where : (test : Place → Bool) (files : Files) → are_placed files ≡ true → are_placed (files_where test files) ≡ true
 placed_where test [] e = refl

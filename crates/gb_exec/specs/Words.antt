@@ -14,7 +14,7 @@ pub use Rattle.gb_meaning.specs.Memory.{Memory}
 pub use Rattle.gb_meaning.specs.Outline.{Outlines}
 pub use Rattle.gb_printer.specs.Printing.{Prints, parts_text}
 pub use Rattle.gb_records.specs.Said.{IsText}
-pub use Rattle.gb_store.specs.Changes.{ChangesOnly}
+pub use Rattle.gb_folder.specs.Changes.{ChangesOnly}
 pub use Rattle.gb_task.specs.Buildable.{IsBuildable}
 pub use Rattle.gb_records.specs.Assumed.{IsAssumed}
 pub use Rattle.gb_task.specs.Executing.{Registering, setting_with}

@@ -1,8 +1,8 @@
 //! A build of a plan.
 ghost use Rattle.std.specs.Prelude.{◌≡◌, ◌≤◌, Bool, List, true, not, map, length, IfOk, IsTrue, OnErr};
 ghost use Rattle.std.specs.List.{AllZip};
-ghost use Rattle.gb_folder.specs.Calls.{WhereKnown};
-ghost use Rattle.gb_folder.specs.Files.{Bytes, SameTearing};
+ghost use Rattle.gb_folder.specs.Calls.{Requests, changes_at};
+ghost use Rattle.gb_folder.specs.Files.{Bytes};
 ghost use Rattle.gb_meaning.specs.Headline.{HasFailed, HaveHeard};
 ghost use Rattle.gb_meaning.specs.Kinds.{Kinds};
 ghost use Rattle.gb_meaning.specs.Memory.{Memory};
@@ -10,7 +10,6 @@ ghost use Rattle.gb_meaning.specs.Outline.{Outlines};
 ghost use Rattle.gb_plan.specs.Graph.{order};
 ghost use Rattle.gb_printer.specs.Printing.{Prints, parts_text};
 ghost use Rattle.gb_records.specs.Assumed.{IsAssumed};
-ghost use Rattle.gb_store.specs.Changes.{ChangesOnly};
 ghost use Rattle.gb_task.specs.Executing.{Registering, setting_with};
 ghost use Rattle.gb_exec.specs.Asking.{ExecutionsRequest};
 ghost use Rattle.gb_exec.specs.Building.{CanBuild, is_of_executions};
@@ -53,7 +52,6 @@ pub fn execute<A: Actions, F: Folder, L: TaskListener, P: Printer>(
     requires can { CanBuild A.meanings table.now plan.now }
     requires each { length records.now ≡ length plan.now }
     ensures unbegun { OnErr result (folder.new ≡ folder.old) }
-    ensures back { F.device.faithful folder.new → F.device.faithful folder.old }
     ensures unnotified { OnErr result (listeners.new ≡ listeners.old) }
     ensures unprinted { OnErr result (printer.new ≡ printer.old) }
     ensures dry_run { IfOk result (λ report. report.dry_run ≡ options.dry_run) }
@@ -65,8 +63,6 @@ pub fn execute<A: Actions, F: Folder, L: TaskListener, P: Printer>(
     // The parts of its tasks were printed; or a beginning of them, where they could not be.
     ensures printed { IfOk result (λ report.
         Prints P.contents P.whole (parts_text report) printer.old printer.new) }
-    ensures count { F.device.failures folder.old ≤ F.device.failures folder.new }
-    ensures tearing { SameTearing (F.device.may_leave folder.old) (F.device.may_leave folder.new) }
     // Over any folder: task after task, each from the state in which the one before it ended, makes
     // the calls that its outcome permits. A task is up to date only by what calls returned since the
     // last change that the build asked for, or since the build began.
@@ -77,7 +73,8 @@ pub fn execute<A: Actions, F: Folder, L: TaskListener, P: Printer>(
     ensures device { IfOk result (λ report.
         HasFailed (times_blamed report.tasks) (F.device.failures folder.old) (F.device.failures folder.new)) }
     ensures dry { options.dry_run ≡ true → folder.new ≡ folder.old }
-    ensures changes { WhereKnown F.device folder.old folder.new (ChangesOnly (is_of_executions plan.now)) }
+    // So it changes files at the outputs and records of its tasks alone.
+    ensures changes { Requests F.device (changes_at (is_of_executions plan.now)) folder.old folder.new }
     // Where contents are known and `IsAssumed` holds: if `AreTrueBefore` holds of the records, this is
     // a build of the plan by the definitions. If also `guard` holds of the contents so far (no two share a
     // digest, or nothing was remembered), the records of what is remembered exist after it.

@@ -3,9 +3,7 @@ ghost use Rattle.std.specs.Prelude.{◌≡◌, ◌≤◌, ◌<◌, ◌+◌, ◌+
 ghost use Rattle.std.specs.Prelude.{replicate, IsTrue, vec_len};
 ghost use Rattle.std.specs.List.{AllZip, flat_map};
 ghost use Rattle.std.specs.Vec.{vec_capacity};
-ghost use Rattle.gb_folder.specs.Calls.{WhereKnown};
 ghost use Rattle.gb_folder.specs.Files.{Bytes};
-ghost use Rattle.gb_meaning.specs.Events.{State};
 ghost use Rattle.gb_meaning.specs.Headline.{HasFailed};
 ghost use Rattle.gb_meaning.specs.Kinds.{Kinds};
 ghost use Rattle.gb_meaning.specs.Memory.{Memory};
@@ -15,13 +13,12 @@ ghost use Rattle.gb_plan.specs.Graph.{order};
 ghost use Rattle.gb_printer.specs.Printing.{Prints};
 ghost use Rattle.gb_records.specs.Assumed.{IsAssumed};
 ghost use Rattle.gb_report.specs.Report.{task_text};
-ghost use Rattle.gb_store.specs.Changes.{ChangesOnly};
 ghost use Rattle.gb_task.specs.Executing.{Registering, setting_with};
 ghost use Rattle.gb_exec.specs.Notifying.{AllReported};
 ghost use Rattle.gb_exec.specs.Plans.{AreOfPlan};
 ghost use Rattle.gb_exec.specs.declared.may_start.Ending.TheVariants.{ToCome};
 ghost use Rattle.gb_exec.specs.Asking.{ExecutionsRequest};
-ghost use Rattle.gb_exec.specs.Building.{CanBuild, is_of_executions};
+ghost use Rattle.gb_exec.specs.Building.{CanBuild};
 ghost use Rattle.gb_exec.specs.Built.{AreTrueBefore, HasBuilt};
 ghost use Rattle.gb_exec.specs.Failing.{times_blamed};
 ghost use Rattle.gb_exec.specs.Reports.{IsOf};
@@ -75,7 +72,6 @@ pub(crate) fn execute_tasks<A: Actions, F: Folder, L: TaskListener, P: Printer>(
     requires none { reports.old.items ≡ [] }
     requires room { length build.now.tasks.now ≤ vec_capacity reports.old }
     ensures of_tasks { AllZip IsOf build.now.tasks.now reports.new.items }
-    ensures back { F.device.faithful folder.new → F.device.faithful folder.old }
     ensures outline { AreOutlines build.now.options build.now.tasks.now [] build.now.tasks.now
         reports.new.items }
     ensures heard { AllReported (heard_of false reports.new.items) result
@@ -87,8 +83,6 @@ pub(crate) fn execute_tasks<A: Actions, F: Folder, L: TaskListener, P: Printer>(
         folder.new }
     ensures device { HasFailed (times_blamed reports.new.items)
         (F.device.failures folder.old) (F.device.failures folder.new) }
-    ensures changes { WhereKnown F.device folder.old folder.new
-        (ChangesOnly (is_of_executions build.now.tasks.now)) }
     ensures build { F.device.faithful folder.new → (kinds : Kinds) (registry_of : Registering)
         (remembered : Memory)
         (clear : Bool) (observed : List Bytes)

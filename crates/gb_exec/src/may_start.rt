@@ -1,6 +1,6 @@
 //! Whether a task starts, at its place in the order.
 ghost use Rattle.std.specs.Prelude.{◌≡◌, ◌<◌, ◌⊎◌, ◌↔◌, ℕ, true, false, length, Contains, IsTrue, IfOk};
-ghost use Rattle.std.specs.Prelude.{map, slice_set, vec_len};
+ghost use Rattle.std.specs.Prelude.{slice_set, vec_len};
 ghost use Rattle.std.specs.List.{list_any};
 ghost use Rattle.gb_report.specs.Outcome.{is_failed, is_started};
 ghost use Rattle.gb_exec.specs.Starts.{DoesStart, IsWired, Spreads, ended_badly, ending_in, has_executed};

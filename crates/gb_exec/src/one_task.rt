@@ -12,11 +12,10 @@ ghost use Rattle.gb_plan.specs.declared.plan.Planned.{Planned};
 ghost use Rattle.gb_records.specs.Assumed.{IsAssumed};
 ghost use Rattle.gb_records.specs.Holding.{HoldsRecords};
 ghost use Rattle.gb_report.specs.declared.report.Outcome.TheVariants.{Failed, NotRun};
-ghost use Rattle.gb_store.specs.Changes.{ChangesOnly};
-ghost use Rattle.gb_tree.specs.Seen.{AreSeen, AreSeenIn};
+ghost use Rattle.gb_tree.specs.Seen.{AreSeen};
 ghost use Rattle.gb_task.specs.Case.{IsKnown};
 ghost use Rattle.gb_task.specs.ByOutcome.{ExecutionRequests, since_after};
-ghost use Rattle.gb_task.specs.Executing.{Registering, is_of_execution, setting_with};
+ghost use Rattle.gb_task.specs.Executing.{Registering, setting_with};
 ghost use Rattle.gb_exec.specs.Notifying.{AllReported};
 ghost use Rattle.gb_exec.specs.Plans.{AreEndings, AreOfPlan};
 ghost use Rattle.gb_exec.specs.Building.{CanBuild};
@@ -92,7 +91,6 @@ pub(crate) fn execute_one<A: Actions, F: Folder, L: TaskListener>(
     requires path { (planned : Planned) → slice_get build.now.tasks.now index ≡ Some planned
         → path ≡ planned.task.path }
     ensures starts { starts.new ≡ starts.old }
-    ensures back { F.device.faithful folder.new → F.device.faithful folder.old }
     ensures of_task { (planned : Planned) → slice_get build.now.tasks.now index ≡ Some planned
         → IsOf planned result.report }
     ensures heard { AllReported (heard_of false (result.report ∷ [])) result.all_heard
@@ -111,21 +109,16 @@ pub(crate) fn execute_one<A: Actions, F: Folder, L: TaskListener>(
         folder.new seen.new }
     ensures blame { (place : List ℕ) → result.report.outcome ≡ Failed (Fault.Device place)
         → HasRisen (F.device.failures folder.old) (F.device.failures folder.new) }
-    ensures changes { F.device.faithful folder.new → (planned : Planned)
-        → slice_get build.now.tasks.now index ≡ Some planned
-        → ChangesOnly (is_of_execution planned.task) (F.device.contents folder.old)
-        (F.device.contents folder.new) }
     // Over any folder, at each moment with the outcomes so far, its report is one that the outline
     // permits.
     ensures outline { (moment : Moment) (planned : Planned)
         → slice_get build.now.tasks.now index ≡ Some planned
         → AreEndings build.now.tasks.now moment.outcomes starts.old.endings
         → IsOutline build.now.options build.now.tasks.now moment planned result.report }
-    ensures seen_in { F.device.faithful folder.new → AreSeenIn (F.device.contents folder.old).files seen.old
-        → AreSeenIn (F.device.contents folder.new).files seen.new }
     // If the record that was read is a true record of the task (`IsKnown`), this is its execution
     // as defined.
-    ensures execution { F.device.faithful folder.new → AreSeenIn (F.device.contents folder.old).files seen.old
+    ensures execution { F.device.faithful folder.new → (since : _)
+        → Requests F.device no_change since folder.old → AreSeen F.device since folder.old seen.old
         → (kinds : Kinds) (registry_of : Registering) (moment : Moment) (planned : Planned)
         → slice_get build.now.tasks.now index ≡ Some planned
         → IsAssumed A.meanings build.now.table.now kinds (F.device.may_leave folder.old)

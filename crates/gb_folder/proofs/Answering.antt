@@ -1,13 +1,14 @@
 -- An answer returned in a part of a sequence of calls was returned in the whole sequence.
 use Rattle.gb_folder.specs.Answers.{IsOnWay, WereRead}
 use Rattle.gb_folder.specs.Calls.{Requests, Call, no_change}
+use Rattle.gb_folder.specs.Device.{IsCalled}
 use Rattle.gb_folder.specs.Files.{Bytes, Place}
 use Rattle.gb_folder.proofs.Asked.{requests_nothing, requests_then}
 use Rattle.gb_folder.specs.Calls.{Device}
 
 module _ {F : Type 0} {device : Device F} where
   -- one call, as it was made
-  pub on_way_here : {call : Call} {old new : F} → device.allowed old call new → IsOnWay device call old new
+  pub on_way_here : {call : Call} {old new : F} → IsCalled device old call new → IsOnWay device call old new
   on_way_here {old = old} {new = new} is =
       record { before = old; after = new; first = requests_nothing old; is = is; rest = requests_nothing new }
 

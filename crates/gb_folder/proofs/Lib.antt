@@ -13,3 +13,11 @@ pub mod Answering
 pub mod Said
 pub mod Leading
 pub mod EachOf
+pub mod Machine
+pub mod Emptied
+pub mod Loops
+pub mod Removing
+pub mod Asking
+pub mod Called
+pub mod Elsewhere
+pub mod Known

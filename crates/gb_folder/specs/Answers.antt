@@ -1,6 +1,7 @@
 -- Answers of calls that were made between two states of a folder, over any folder.
 use Rattle.std.specs.Prelude.{List, Ok}
 use Rattle.gb_folder.specs.Calls.{Device, Requests, Call, Lists, Reads, no_change}
+use Rattle.gb_folder.specs.Device.{IsCalled}
 use Rattle.gb_folder.specs.Files.{Bytes, Place}
 use Rattle.gb_folder.specs.Limits.{max_file}
 
@@ -9,7 +10,7 @@ pub record IsOnWay {F : Type 0} (device : Device F) (call : Call) (old new : F) 
   pub before : F
   pub after : F
   pub first : Requests device no_change old before
-  pub is : device.allowed before call after
+  pub is : IsCalled device before call after
   pub rest : Requests device no_change after new
 
 -- the bytes were returned as those of the file at the place, in one call that reads any file

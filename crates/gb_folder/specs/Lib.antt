@@ -11,3 +11,5 @@ pub mod Memory
 pub mod Limits
 pub mod Faulty
 pub mod Noted
+pub mod Changes
+pub mod Removals

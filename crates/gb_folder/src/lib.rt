@@ -20,6 +20,12 @@
 //! removals that are requested. [`FileMap`](file_map::FileMap) stores files without being a folder:
 //! one may be in the way of another.
 //!
+//! As builds use them: `listed_at` ([`listing`]) lists the files at or under a place, and
+//! `remove_all` ([`removal`]) removes files, with the faults of reports, which name the place. If a
+//! removal is cut short (`IsCutShort`), the first of the places are empty, and at the next there is
+//! what the device left, or memory ran out before it. What calls leave elsewhere follows from what
+//! they request (`proofs/Elsewhere.antt`).
+//!
 //! Two laws: `calls_are_exact` (over known contents a call returns and leaves what its definition
 //! says) and `requests_are_calls` (what is requested between two states is a list of calls that lead
 //! from the one to the other, and the other way round).
@@ -29,12 +35,15 @@
 #![tactic(auto)]
 
 pub mod calls;
+pub mod faults;
 pub mod faulty;
 pub mod file_map;
 pub mod folder;
 pub mod laws;
 pub mod limits;
+pub mod listing;
 pub mod memory;
 pub mod noted;
 pub mod own;
 pub mod range;
+pub mod removal;

@@ -9,7 +9,7 @@ use Rattle.gb_meaning.specs.Tree.{has_no_source, input_faults, listing_faults}
 use Rattle.gb_meaning.proofs.Common.{none_some}
 use Rattle.gb_plan.specs.declared.task.TaskDeclaration.{TaskDeclaration as Task}
 use Rattle.gb_report.specs.declared.fault.Fault.{Fault}
-use Rattle.gb_store.proofs.Machine.{machine_before}
+use Rattle.gb_folder.proofs.Machine.{machine_before}
 use Rattle.gb_label.specs.Reading.{CannotRead}
 use Rattle.gb_label.specs.Looking.{IsHindered}
 use Rattle.gb_run.proofs.Placed.{none_after}

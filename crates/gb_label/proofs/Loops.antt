@@ -1,13 +1,19 @@
 -- What holds of one property holds of all.
 use Rattle.std.specs.Prelude.{ℕ, zero, suc, ◌≡◌, ◌<◌, ◌+◌, Bool, true, List, [], ◌∷◌, ◌++◌, map, length, take, get_or, Some, ◌||◌}
-use Rattle.std.specs.List.{list_any, flat_map}
-use Rattle.std.proofs.Common.{refl, sym, ap, ◌∙◌, arith, append-nil}
+use Rattle.std.specs.List.{AllByRecursion, list_any, flat_map}
+use Rattle.std.proofs.Common.{refl, sym, subst, ap, ◌∙◌, arith, append-nil}
 use Rattle.std.proofs.lemmas.List.{take_more, map-append}
 use Rattle.std.proofs.lemmas.List.Concat.{flat_map-append}
 use Rattle.gb_core.specs.Lists.{first_of}
 use Rattle.gb_folder.specs.Files.{is_empty}
 use Rattle.gb_meaning.proofs.Common.{none_some}
 use Rattle.gb_plan.proofs.Tests.{any_append, or_right, not_false}
+
+-- a property of all elements holds of this one
+pub all_at : {X : Type 0} (P : X → Type 0) (xs : List X) (i : ℕ) (x : X) → i < length xs → x ≡ get_or xs i x → AllByRecursion P xs → P x
+all_at P [] i x within is all = absurd (omega (arith, within))
+all_at P (y ∷ ys) zero x within is all = subst P (sym is) all.0
+all_at P (y ∷ ys) (suc i) x within is all = all_at P ys i x (omega (arith, within)) is all.1
 
 pub any_of_one : {X Y : Type 0} (p : Y → Bool) (f : X → List Y) (xs : List X) (i : ℕ) (x : X) → i < length xs → x ≡ get_or xs i x → list_any p (f x) ≡ true
     → list_any p (flat_map f xs) ≡ true

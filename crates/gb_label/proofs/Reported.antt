@@ -7,7 +7,7 @@ use Rattle.gb_report.specs.declared.fault.Fault.TheVariants as faults
 use Rattle.gb_tree.specs.declared.fault.TreeFault.{TreeFault}
 use Rattle.gb_tree.specs.declared.fault.TreeFault.TheVariants as trees
 use Rattle.gb_tree.specs.Tree.{IsTreeFaultOfMachine}
-use Rattle.gb_store.specs.Faults.{IsOfMachine}
+use Rattle.gb_folder.specs.Faults.{IsOfMachine}
 use Rattle.gb_meaning.specs.Tree.{reported_of_tree}
 use Rattle.gb_meaning.proofs.Common.{none_some, some_same}
 

@@ -8,7 +8,7 @@ use Rattle.gb_meaning.specs.Tree.{has_no_source, input_faults, trees_of}
 use Rattle.gb_plan.specs.declared.task.FileProperty.{FileProperty}
 use Rattle.gb_plan.specs.declared.task.TaskDeclaration.{TaskDeclaration as Task}
 use Rattle.gb_report.specs.declared.fault.Fault.{Fault}
-use Rattle.gb_store.specs.Faults.{IsOfMachine}
+use Rattle.gb_folder.specs.Faults.{IsOfMachine}
 use Rattle.gb_label.specs.Reading.{AreInputs, AreInputsObserved, digests_in, prints_read}
 use Rattle.gb_label.specs.declared.early_outcomes.EarlyCase.{EarlyCase}
 use Rattle.gb_label.specs.declared.early_outcomes.EarlyCase.TheVariants as early_cases

@@ -2,7 +2,7 @@
 ghost use Rattle.std.specs.Prelude.{◌≡◌, IfOk, IfErr};
 ghost use Rattle.std.specs.List.{AllByRecursion};
 ghost use Rattle.gb_folder.specs.Calls.{OnlyReads, Requests, no_change};
-ghost use Rattle.gb_store.specs.Faults.{Blames, BlamesOnly, IsOfMachine};
+ghost use Rattle.gb_folder.specs.Faults.{Blames, BlamesOnly, IsOfMachine};
 ghost use Rattle.gb_tree.specs.Answered.{IsTreeRead, WereObserved};
 ghost use Rattle.gb_tree.specs.Prints.{digests_of};
 ghost use Rattle.gb_tree.specs.Reading.{IsObservedIn, entries_observed};

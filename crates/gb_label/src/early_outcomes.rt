@@ -4,7 +4,7 @@ ghost use Rattle.std.specs.List.{list_all, list_any, zip};
 ghost use Rattle.gb_folder.specs.Calls.{OnlyReads, Requests, no_change};
 ghost use Rattle.gb_folder.specs.Files.{is_empty};
 ghost use Rattle.gb_plan.specs.Task.{is_output_of};
-ghost use Rattle.gb_store.specs.Faults.{Blames, BlamesOnly};
+ghost use Rattle.gb_folder.specs.Faults.{Blames, BlamesOnly};
 ghost use Rattle.gb_tree.specs.Seen.{AreSeen, AreSeenIn};
 ghost use Rattle.gb_label.specs.Answered.{IsEarlyCaseRead};
 ghost use Rattle.gb_label.specs.Looking.{IsCase, IsHindered, MayBe, gives_no_source, lacks_source};

@@ -6,7 +6,7 @@ ghost use Rattle.gb_core.specs.Place.{is_under};
 ghost use Rattle.gb_folder.specs.Calls.{OnlyReads, Requests, no_change};
 ghost use Rattle.gb_history.specs.Record.{prints_in};
 ghost use Rattle.gb_plan.specs.Task.{is_output_of, given_outputs};
-ghost use Rattle.gb_store.specs.Faults.{Blames, BlamesOnly, IsOfMachine};
+ghost use Rattle.gb_folder.specs.Faults.{Blames, BlamesOnly, IsOfMachine};
 ghost use Rattle.gb_tree.specs.Answered.{IsTreeRead, WereObserved};
 ghost use Rattle.gb_tree.specs.Prints.{digests_of};
 ghost use Rattle.gb_tree.specs.Reading.{IsObservedIn, digests_observed, entries_observed};

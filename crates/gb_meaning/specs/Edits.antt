@@ -6,8 +6,8 @@ use Rattle.gb_folder.specs.Files.{IsTorn, is_special_under, is_own, places_under
 use Rattle.gb_folder.specs.Limits.{max_file}
 use Rattle.gb_report.specs.declared.fault.Fault.{Fault}
 use Rattle.gb_report.specs.declared.fault.Fault.TheVariants as faults
-use Rattle.gb_store.specs.Changes.{IsCutShort}
-use Rattle.gb_store.specs.Faults.{IsOfMachine}
+use Rattle.gb_folder.specs.Changes.{IsCutShort}
+use Rattle.gb_folder.specs.Faults.{IsOfMachine}
 use Rattle.gb_meaning.specs.declared.events.Answer.{Answer}
 use Rattle.gb_meaning.specs.declared.events.Answer.TheVariants as answers
 

@@ -27,8 +27,8 @@ use Rattle.gb_reason.specs.declared.reason.Reason.TheVariants as reasons
 use Rattle.gb_report.specs.declared.fault.Fault.{Fault}
 use Rattle.gb_report.specs.declared.fault.Fault.TheVariants as faults
 use Rattle.gb_report.specs.declared.report.Options.{Options}
-use Rattle.gb_store.specs.Faults.{IsOfMachine}
-use Rattle.gb_store.proofs.Machine.{machine_after, machine_before}
+use Rattle.gb_folder.specs.Faults.{IsOfMachine}
+use Rattle.gb_folder.proofs.Machine.{machine_after, machine_before}
 use Rattle.gb_predict.proofs.Finding.{case_by}
 use Rattle.gb_predict.specs.Explained.{IsCompared, IsExplained, why_without}
 use Rattle.gb_predict.specs.Prediction.{AreReasons, IsPredictedOf, IsFound, IsReasoned, RunsFor, is_of_machine, reported_of}

@@ -8,7 +8,7 @@ use Rattle.gb_plan.specs.Task.{Path, has_path}
 use Rattle.gb_records.specs.Said.{IsReadAt}
 use Rattle.gb_report.specs.declared.fault.Fault.{Fault}
 use Rattle.gb_report.specs.declared.fault.Fault.TheVariants as faults
-use Rattle.gb_store.specs.Faults.{IsOfMachine}
+use Rattle.gb_folder.specs.Faults.{IsOfMachine}
 use Rattle.gb_query.specs.Owner.{IsOwner}
 use Rattle.gb_query.specs.declared.inventory.Entry.{Entry}
 use Rattle.gb_query.specs.declared.inventory.Entry.TheVariants as entries

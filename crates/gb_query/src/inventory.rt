@@ -7,7 +7,7 @@ ghost use Rattle.gb_folder.specs.Files.{Place as PlaceOf};
 ghost use Rattle.gb_history.specs.Record.{Record};
 ghost use Rattle.gb_plan.specs.Task.{Path, has_path};
 ghost use Rattle.gb_records.specs.Said.{IsReadAt};
-ghost use Rattle.gb_store.specs.Faults.{IsOfMachine};
+ghost use Rattle.gb_folder.specs.Faults.{IsOfMachine};
 ghost use Rattle.gb_query.specs.Inventory.{AreEntriesOf, AreLeftAt, AreUnregistered, IsEntryOf, IsLeftAt};
 ghost use Rattle.gb_query.specs.Inventory.{IsUnlisted, row_if};
 ghost use Rattle.gb_query.specs.Owner.{IsOwner};
@@ -16,9 +16,9 @@ use crate::owner::owner_of;
 use gb_core::path::TaskPath;
 use gb_core::place::{Place, PlaceFault};
 use gb_folder::folder::Folder;
+use gb_folder::listing::listed_at;
 use gb_records::stored_records::read_records;
 use gb_report::fault::Fault;
-use gb_store::listing::listed_at;
 use std::alloc::{AllocError, Global};
 
 /// The kind of a file of `.gb`.

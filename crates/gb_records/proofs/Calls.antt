@@ -17,7 +17,7 @@ use Rattle.gb_core.specs.declared.place.PlaceFault.TheVariants as places
 use Rattle.gb_report.specs.declared.fault.Fault.{Fault}
 use Rattle.gb_report.specs.declared.fault.Fault.TheVariants as faults
 use Rattle.gb_plan.specs.Task.{Path}
-use Rattle.gb_store.proofs.Emptied.{without_none, blocked_none}
+use Rattle.gb_folder.proofs.Emptied.{without_none, blocked_none}
 use Rattle.gb_history.specs.Places.{record_place}
 use Rattle.gb_history.specs.Record.{Record, IsWellFormed}
 use Rattle.gb_history.specs.Text.{record_text}

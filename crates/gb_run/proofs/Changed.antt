@@ -5,8 +5,8 @@ use Rattle.gb_folder.specs.Calls.{Call, IsPermitted, Lists, Reads, ReadsPart, Re
 use Rattle.gb_folder.specs.Files.{Contents, Place, Tearing}
 use Rattle.gb_folder.specs.Semantics.{Answers, AnswersAll}
 use Rattle.gb_folder.specs.declared.folder.FolderFault.TheVariants as folders
-use Rattle.gb_store.specs.Changes.{ChangesOnly}
-use Rattle.gb_store.proofs.Machine.{changes_chain, changes_left, changes_none, changes_with, changes_without}
+use Rattle.gb_folder.specs.Changes.{ChangesOnly}
+use Rattle.gb_folder.proofs.Machine.{changes_chain, changes_left, changes_none, changes_with, changes_without}
 
 module _ (test : Place → Bool) (may_leave : Tearing) where
   changes_once : (old new : Contents) (call : Call) → IsPermitted (changes_at test) call → Answers may_leave old call new → ChangesOnly test old new

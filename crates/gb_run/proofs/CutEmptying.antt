@@ -11,7 +11,7 @@ use Rattle.gb_report.specs.declared.fault.Fault.TheVariants as faults
 use Rattle.gb_tree.specs.declared.fault.TreeFault.TheVariants as trees
 use Rattle.gb_plan.specs.Task.{output_places}
 use Rattle.gb_plan.specs.declared.task.TaskDeclaration.{TaskDeclaration as Task}
-use Rattle.gb_store.specs.Changes.{IsCutShort, IsHindered, without_all}
+use Rattle.gb_folder.specs.Changes.{IsCutShort, IsHindered, without_all}
 use Rattle.gb_meaning.specs.Tree.{reported_of_tree}
 use Rattle.gb_meaning.specs.Events.{IsTornInRun, Setting, ExistsInRun}
 use Rattle.gb_run.specs.Emptying.{places_at}

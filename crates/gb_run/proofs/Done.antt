@@ -4,7 +4,7 @@ use Rattle.std.proofs.Common.{refl, sym, ap, subst, ◌∙◌, inl, inr}
 use Rattle.std.proofs.lemmas.List.{take-append-drop, take_more}
 use Rattle.gb_folder.specs.Calls.{Call}
 use Rattle.gb_report.specs.declared.fault.Fault.{Fault}
-use Rattle.gb_store.proofs.Loops.{step_here}
+use Rattle.gb_folder.proofs.Loops.{step_here}
 use Rattle.gb_run.specs.Steps.{Step}
 use Rattle.gb_folder.specs.Semantics.{Answer}
 use Rattle.gb_folder.specs.Calls.{Device}

@@ -9,8 +9,8 @@ use Rattle.gb_folder.specs.declared.folder.FolderFault.TheVariants as folders
 use Rattle.gb_folder.proofs.Changes.{HasRisen-before}
 use Rattle.gb_report.specs.declared.fault.Fault.{Fault}
 use Rattle.gb_report.specs.declared.fault.Fault.TheVariants as faults
-use Rattle.gb_store.specs.Changes.{IsHindered}
-use Rattle.gb_store.proofs.Emptied.{blocked_none, without_none}
+use Rattle.gb_folder.specs.Changes.{IsHindered}
+use Rattle.gb_folder.proofs.Emptied.{blocked_none, without_none}
 use Rattle.gb_run.specs.Steps.{Step, folder_after}
 use Rattle.gb_run.specs.Stepping.{HasRoom, IsCutShort, IsFree, IsShutOut, IsSmall}
 use Rattle.gb_folder.specs.Semantics.{Answer, Answers, AnswersAll}

@@ -15,7 +15,7 @@ use Rattle.gb_folder.proofs.Leading.{leads_on, leads_once}
 use Rattle.gb_plan.specs.declared.task.Output.{Output}
 use Rattle.gb_report.specs.declared.fault.Fault.{Fault}
 use Rattle.gb_report.specs.declared.fault.Fault.TheVariants as faults
-use Rattle.gb_store.specs.Removals.{IsListed, Removals, WasListed}
+use Rattle.gb_folder.specs.Removals.{IsListed, Removals, WasListed}
 use Rattle.gb_run.specs.Emptying.{Emptying, IsFound, Listing}
 
 module _ {F : Type 0} (device : Device F) (output : Output) (old new : F) where

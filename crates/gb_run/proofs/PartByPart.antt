@@ -6,7 +6,7 @@ use Rattle.gb_folder.specs.Calls.{Call}
 use Rattle.gb_report.specs.declared.fault.Fault.{Fault}
 use Rattle.gb_report.specs.declared.fault.Fault.TheVariants as faults
 use Rattle.gb_plan.specs.Task.{Text}
-use Rattle.gb_store.proofs.Loops.{step_here}
+use Rattle.gb_folder.proofs.Loops.{step_here}
 use Rattle.gb_run.proofs.Endings.{with_none}
 use Rattle.gb_folder.specs.Calls.{Device}
 use Rattle.gb_folder.specs.Device.{Leads}

@@ -12,7 +12,7 @@ use Rattle.gb_folder.proofs.Sound.{all_put}
 use Rattle.gb_report.specs.declared.fault.Fault.{Fault}
 use Rattle.gb_report.specs.declared.fault.Fault.TheVariants as faults
 use Rattle.gb_plan.specs.declared.task.Output.{Output}
-use Rattle.gb_store.specs.Changes.{shown}
+use Rattle.gb_folder.specs.Changes.{shown}
 use Rattle.gb_meaning.specs.Made.{fault_if, file_faults, put_over}
 use Rattle.gb_run.specs.Placing.{blank, count_faults, faults_beside}
 

@@ -7,7 +7,7 @@ use Rattle.gb_report.specs.declared.fault.Fault.TheVariants as faults
 use Rattle.gb_action.specs.declared.reply.Written.{Written}
 use Rattle.gb_plan.specs.Task.{Text}
 use Rattle.gb_plan.specs.declared.task.Output.{Output}
-use Rattle.gb_store.specs.Changes.{IsHindered}
+use Rattle.gb_folder.specs.Changes.{IsHindered}
 use Rattle.gb_meaning.specs.Made.{placed, put_over, step_faults}
 use Rattle.gb_meaning.specs.Run.{has_room, step_by}
 use Rattle.gb_meaning.proofs.Lemmas.Files.{sorted-put_over}

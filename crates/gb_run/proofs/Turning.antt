@@ -18,7 +18,7 @@ use Rattle.gb_plan.specs.Task.{Text}
 use Rattle.gb_plan.specs.declared.task.Action.{Action}
 use Rattle.gb_plan.specs.declared.task.Output.{Output}
 use Rattle.gb_plan.specs.declared.task.TaskDeclaration.{TaskDeclaration as Task}
-use Rattle.gb_store.specs.Changes.{IsHindered}
+use Rattle.gb_folder.specs.Changes.{IsHindered}
 use Rattle.gb_meaning.specs.Kinds.{Kinds, kind_of}
 use Rattle.gb_meaning.specs.Made.{file_faults, full_outputs, placed, put_over, rest_of, step_faults}
 use Rattle.gb_meaning.specs.Run.{step_by}

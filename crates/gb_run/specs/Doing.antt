@@ -9,8 +9,8 @@ use Rattle.gb_folder.specs.Limits.{max_file}
 use Rattle.gb_folder.specs.Semantics.{Answer}
 use Rattle.gb_report.specs.declared.fault.Fault.{Fault}
 use Rattle.gb_report.specs.declared.fault.Fault.TheVariants as faults
-use Rattle.gb_store.specs.Faults.{reported_at}
-use Rattle.gb_store.specs.Removals.{removal_ending}
+use Rattle.gb_folder.specs.Faults.{reported_at}
+use Rattle.gb_folder.specs.Removals.{removal_ending}
 use Rattle.gb_run.specs.Steps.{Step}
 
 -- it went well, or ended with this fault

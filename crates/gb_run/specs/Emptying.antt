@@ -12,9 +12,9 @@ use Rattle.gb_report.specs.declared.fault.Fault.TheVariants as faults
 use Rattle.gb_tree.specs.Tree.{special_roots}
 use Rattle.gb_plan.specs.declared.task.Output.{Output}
 use Rattle.gb_plan.specs.declared.task.TaskDeclaration.{TaskDeclaration as Task}
-use Rattle.gb_store.specs.Changes.{IsCutShort}
-use Rattle.gb_store.specs.Faults.{IsOfMachine, reported_at}
-use Rattle.gb_store.specs.Removals.{Removals}
+use Rattle.gb_folder.specs.Changes.{IsCutShort}
+use Rattle.gb_folder.specs.Faults.{IsOfMachine, reported_at}
+use Rattle.gb_folder.specs.Removals.{Removals}
 use Rattle.gb_meaning.specs.Tree.{listing_faults, reported_of_tree}
 use Rattle.gb_run.specs.Doing.{OrEnds}
 

@@ -5,7 +5,7 @@ use Rattle.gb_folder.specs.Files.{Bytes, Contents, Files, HasRisen, Tearing, fil
 use Rattle.gb_folder.specs.Limits.{max_file}
 use Rattle.gb_report.specs.declared.fault.Fault.{Fault}
 use Rattle.gb_report.specs.declared.fault.Fault.TheVariants as faults
-use Rattle.gb_store.specs.Changes.{IsHindered}
+use Rattle.gb_folder.specs.Changes.{IsHindered}
 use Rattle.gb_run.specs.Steps.{Step, after_steps, folder_after}
 
 -- a file that is put is not too large

@@ -4,11 +4,10 @@ ghost use Rattle.std.specs.FinMap.Entries.{is_sorted};
 ghost use Rattle.std.specs.List.{AllByRecursion};
 ghost use Rattle.gb_core.specs.Lists.{byte_order};
 ghost use Rattle.gb_action.specs.Files.{Trees};
-ghost use Rattle.gb_folder.specs.Calls.{Call, Requests, WhereKnown, changes_at};
+ghost use Rattle.gb_folder.specs.Calls.{Call, Requests, changes_at};
 ghost use Rattle.gb_folder.specs.Device.{Leads};
 ghost use Rattle.gb_folder.specs.Files.{Files, are_placed};
-ghost use Rattle.gb_store.specs.Changes.{ChangesOnly};
-ghost use Rattle.gb_store.specs.Faults.{Blames, BlamesOnly};
+ghost use Rattle.gb_folder.specs.Faults.{Blames, BlamesOnly};
 ghost use Rattle.gb_tree.specs.Prints.{digests_of};
 ghost use Rattle.gb_plan.specs.Ready.{IsReady};
 ghost use Rattle.gb_plan.specs.Task.{is_output_of, given_files, given_outputs};
@@ -78,7 +77,6 @@ pub fn run_by_changes<A: Actions, F: Folder>(
         folder.new }
     ensures blame { Blames result (F.device.failures folder.old) (F.device.failures folder.new) }
     ensures blamed { BlamesOnly (is_output_of task.now) result }
-    ensures changes { WhereKnown F.device folder.old folder.new (ChangesOnly (is_output_of task.now)) }
     ensures ok { F.device.faithful folder.new → OnOk result ((kinds : Kinds)
         → Agrees A.meanings table.now kinds
         → (old : Trees) → GoesOn kinds task.now old files changes outputs (F.device.contents folder.old).files

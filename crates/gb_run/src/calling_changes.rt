@@ -1,16 +1,15 @@
 //! Calls the actions of a task, with full or incremental requests.
-ghost use Rattle.std.specs.Prelude.{◌≡◌, ◌⊎◌, ℕ, List, true, Ok, Err, IfOk, IfErr, OnOk, Some, map};
+ghost use Rattle.std.specs.Prelude.{◌≡◌, ◌⊎◌, ℕ, List, true, Ok, Err, IfOk, IfErr, OnOk, Some};
 ghost use Rattle.std.specs.FinMap.Entries.{find};
 ghost use Rattle.gb_core.specs.Lists.{byte_order};
 ghost use Rattle.std.specs.List.{AllByRecursion};
 ghost use Rattle.gb_action.specs.Meanings.{shape_of};
 ghost use Rattle.gb_action.specs.Replies.{Answers};
 ghost use Rattle.gb_plan.specs.Ready.{IsReady, IsReadyAction};
-ghost use Rattle.gb_plan.specs.Task.{given_files, given_outputs};
 ghost use Rattle.gb_meaning.specs.Headline.{Agrees};
 ghost use Rattle.gb_meaning.specs.Kinds.{Kinds, kind_of};
 ghost use Rattle.gb_meaning.specs.Label.{has_one_writer};
-ghost use Rattle.gb_run.specs.Asking.{IsFullRequest, made_by};
+ghost use Rattle.gb_run.specs.Asking.{made_by};
 ghost use Rattle.gb_run.specs.AskingChanges.{AnswersChanges, CanGoOn, writes_stored};
 ghost use Rattle.gb_run.specs.Requests.{IsRequestOf};
 

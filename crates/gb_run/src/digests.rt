@@ -2,8 +2,8 @@
 //!
 //! They are in a map keyed by the texts of their places, in byte order. So what is at or under an
 //! output's place is found by one look-up and one range of the map.
-ghost use Rattle.std.specs.Prelude.{◌≡◌, ◌++◌, ◌∷◌, ℕ, List, [], IsTrue, IfOk, OnOk, OnErr, map};
-ghost use Rattle.std.specs.Prelude.{string_bytes, unwrap_or};
+ghost use Rattle.std.specs.Prelude.{◌≡◌, ◌++◌, ◌∷◌, [], IsTrue, IfOk, OnOk, OnErr, map};
+ghost use Rattle.std.specs.Prelude.{unwrap_or};
 ghost use Rattle.std.specs.FinMap.Entries.{is_sorted};
 ghost use Rattle.sha2.specs.Sha256.{sha256};
 ghost use Rattle.gb_core.specs.Lists.{byte_order};

@@ -6,11 +6,11 @@ ghost use Rattle.gb_run.specs.Doing.{Does, Tried, write_ending};
 
 use gb_core::bytes::Bytes;
 use gb_core::place::Place;
+use gb_folder::faults::fault_of;
 use gb_folder::folder::{Folder, FolderFault};
 use gb_folder::limits::MAX_FILE;
+use gb_folder::removal::remove_at;
 use gb_report::fault::Fault;
-use gb_store::faults::fault_of;
-use gb_store::removal::remove_at;
 
 /// Does these steps, one after another, up to the first that fails.
 pub fn do_steps<F: Folder>(folder: &mut F, steps: &[(Place, Option<Bytes>)]) -> Result<(), Fault>

@@ -2,12 +2,11 @@
 ghost use Rattle.std.specs.Prelude.{◌≡◌, ◌⊎◌, [], List, Some, IsTrue, IfOk, IfErr, OnOk};
 ghost use Rattle.std.specs.List.{list_all};
 ghost use Rattle.gb_core.specs.Lists.{first_of};
-ghost use Rattle.gb_folder.specs.Calls.{Call, OnlyReads, Requests, WhereKnown, takes_at};
+ghost use Rattle.gb_folder.specs.Calls.{Call, OnlyReads, Requests, takes_at};
 ghost use Rattle.gb_folder.specs.Device.{Leads};
 ghost use Rattle.gb_folder.specs.Each.{Each};
 ghost use Rattle.gb_folder.specs.Files.{Place};
-ghost use Rattle.gb_store.specs.Changes.{ChangesOnly};
-ghost use Rattle.gb_store.specs.Faults.{Blames, BlamesOnly, IsOfMachine};
+ghost use Rattle.gb_folder.specs.Faults.{Blames, BlamesOnly, IsOfMachine};
 ghost use Rattle.gb_plan.specs.Task.{is_output_of};
 ghost use Rattle.gb_meaning.specs.Made.{rest_of};
 ghost use Rattle.gb_meaning.specs.Tree.{listing_faults};
@@ -17,10 +16,10 @@ ghost use Rattle.gb_run.specs.Work.{ending};
 
 use gb_core::place::Place;
 use gb_folder::folder::Folder;
+use gb_folder::listing::listed_at;
+use gb_folder::removal::remove_all;
 use gb_plan::task::{Output, TaskDeclaration};
 use gb_report::fault::Fault;
-use gb_store::listing::listed_at;
-use gb_store::removal::remove_all;
 use std::alloc::Global;
 
 /// Removes the files at the outputs of a task. An error is the first unsupported entry there (fault
@@ -38,7 +37,6 @@ pub fn empty_outputs<F: Folder>(
         folder.new }
     ensures blame { Blames result (F.device.failures folder.old) (F.device.failures folder.new) }
     ensures blamed { BlamesOnly (is_output_of task.now) result }
-    ensures changes { WhereKnown F.device folder.old folder.new (ChangesOnly (is_output_of task.now)) }
     ensures ok { F.device.faithful folder.new → OnOk result
         ((F.device.contents folder.new).files ≡ rest_of task.now (F.device.contents folder.old).files) }
     ensures none_special { F.device.faithful folder.new → OnOk result

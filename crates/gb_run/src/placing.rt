@@ -103,10 +103,13 @@ fn put_file(
 pub fn text_beneath(alloc: Global, root: &Place, path: &RelPath) -> Result<String, AllocError>
     ensures { IfOk result (λ text. string_bytes text ≡ beneath root.now path.now) }
 {
-    let mut text = String::from_str(alloc, root.as_str())?;
-    if !path.as_str().is_empty() {
+    let (above, below) = (root.as_str(), path.as_str());
+    let len = above.len().saturating_add(below.len()).saturating_add(1);
+    let mut text = String::with_capacity(alloc, len)?;
+    text.push_str(above)?;
+    if !below.is_empty() {
         text.push('/')?;
-        text.push_str(path.as_str())?;
+        text.push_str(below)?;
     }
     Ok(text)
 }

@@ -1,10 +1,9 @@
 //! A full execution: computed as a value first, then done in the folder.
 ghost use Rattle.std.specs.Prelude.{◌≡◌, ◌++◌, [], Ok, IfOk, IfErr, OnOk, List, map};
-ghost use Rattle.gb_folder.specs.Calls.{Call, Requests, WhereKnown, changes_at};
+ghost use Rattle.gb_folder.specs.Calls.{Call, Requests, changes_at};
 ghost use Rattle.gb_folder.specs.Device.{Leads};
 ghost use Rattle.gb_folder.specs.Files.{Files};
-ghost use Rattle.gb_store.specs.Changes.{ChangesOnly};
-ghost use Rattle.gb_store.specs.Faults.{Blames, BlamesOnly};
+ghost use Rattle.gb_folder.specs.Faults.{Blames, BlamesOnly};
 ghost use Rattle.gb_plan.specs.Ready.{IsReady};
 ghost use Rattle.gb_plan.specs.Task.{is_output_of, given_files};
 ghost use Rattle.gb_meaning.specs.Headline.{Agrees};
@@ -60,7 +59,6 @@ pub fn run_in_full<A: Actions, F: Folder>(
         folder.new }
     ensures blame { Blames result (F.device.failures folder.old) (F.device.failures folder.new) }
     ensures blamed { BlamesOnly (is_output_of task.now) result }
-    ensures changes { WhereKnown F.device folder.old folder.new (ChangesOnly (is_output_of task.now)) }
     ensures ok { F.device.faithful folder.new → OnOk result ((kinds : Kinds)
         → Agrees A.meanings table.now kinds
         → EndsWell (run_input kinds task.now files changes (F.device.contents folder.old).files)

@@ -30,8 +30,8 @@ use Rattle.gb_report.specs.declared.fault.Fault.TheVariants as faults
 use Rattle.gb_report.specs.declared.report.Options.{Options}
 use Rattle.gb_run.specs.RunInput.{RunInput, EndsWell, run_input}
 use Rattle.gb_run.specs.Laws.{run_input_in}
-use Rattle.gb_store.specs.Changes.{ChangesOnly, is_at}
-use Rattle.gb_store.specs.Faults.{IsOfMachine}
+use Rattle.gb_folder.specs.Changes.{ChangesOnly, is_at}
+use Rattle.gb_folder.specs.Faults.{IsOfMachine}
 use Rattle.gb_label.specs.Reading.{digests_in, is_input_of}
 use Rattle.gb_run.specs.AskingChanges.{GoesOn, IsFitting, observed_of}
 use Rattle.gb_run.specs.Failing.{ByChanges, Fails}

@@ -14,9 +14,9 @@ use Rattle.gb_records.specs.Holding.{HoldsRecords}
 use Rattle.gb_records.proofs.Reported.{holds_elsewhere}
 use Rattle.gb_report.specs.declared.fault.Fault.{Fault}
 use Rattle.gb_run.specs.Emptying.{CannotEmpty}
-use Rattle.gb_store.specs.Changes.{ChangesOnly, is_at, without_all}
-use Rattle.gb_store.proofs.Machine.{machine_before}
-use Rattle.gb_store.proofs.Removing.{hindered_before}
+use Rattle.gb_folder.specs.Changes.{ChangesOnly, is_at, without_all}
+use Rattle.gb_folder.proofs.Machine.{machine_before}
+use Rattle.gb_folder.proofs.Removing.{hindered_before}
 use Rattle.gb_task.specs.Clearing.{HasCleared}
 use Rattle.gb_task.specs.Executing.{is_of_execution}
 use Rattle.gb_task.proofs.Own.{kept_at}

@@ -30,8 +30,8 @@ use Rattle.gb_report.specs.declared.report.TaskReport.{TaskReport}
 use Rattle.gb_run.specs.Emptying.{CannotEmpty}
 use Rattle.gb_run.proofs.Placed.{none_after}
 use Rattle.gb_run.proofs.CutEmptying.{cut_emptyings_invent_nothing, torn_places_are_of_the_emptying}
-use Rattle.gb_store.specs.Changes.{ChangesOnly}
-use Rattle.gb_store.specs.Faults.{IsOfMachine}
+use Rattle.gb_folder.specs.Changes.{ChangesOnly}
+use Rattle.gb_folder.specs.Faults.{IsOfMachine}
 use Rattle.gb_tree.specs.Tree.{special_roots}
 use Rattle.gb_task.specs.Clearing.{HasCleared, IsCleared, IsHalfCleared, IsKept}
 use Rattle.gb_task.specs.Keeping.{IsForgotten, IsUnwritten}

@@ -36,3 +36,4 @@ pub mod Truth
 pub mod Answered
 pub mod ByOutcome
 mod SeenAfter
+mod CallRows

@@ -13,7 +13,7 @@ use Rattle.gb_plan.specs.Task.{Path, is_output_of}
 use Rattle.gb_plan.specs.declared.task.Output.{Output}
 use Rattle.gb_plan.specs.declared.task.TaskDeclaration.{TaskDeclaration as Task}
 pub use Rattle.gb_run.proofs.Owned.{narrowed}
-use Rattle.gb_store.specs.Changes.{ChangesOnly, is_at}
+use Rattle.gb_folder.specs.Changes.{ChangesOnly, is_at}
 use Rattle.gb_task.specs.Executing.{is_of_execution}
 use Rattle.gb_task.proofs.Outside.{kept}
 use Rattle.gb_task.proofs.Own.{blocked_where, is_kept, kept_at, not_in_own_way}

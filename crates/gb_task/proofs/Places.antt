@@ -1,5 +1,5 @@
 -- The stages of an execution change files at the outputs and the record of the task alone.
-use Rattle.std.specs.Prelude.{ℕ, ◌≡◌, ◌≢◌, ◌⊎◌, ◌||◌, ◌++◌, Bool, true, false, List, [], ◌∷◌, Result, Ok, Err}
+use Rattle.std.specs.Prelude.{ℕ, ◌≡◌, ◌≢◌, ◌⊎◌, ◌||◌, ◌++◌, Bool, true, false, List, [], ◌∷◌, Some, Result, Ok, Err}
 use Rattle.std.specs.List.{AllByRecursion, list_all}
 use Rattle.std.specs.Cmp.Lexicographic.{bytes_decides}
 use Rattle.std.proofs.Common.{refl, sym, ap, subst, ◌∙◌, inl, inr}
@@ -11,8 +11,8 @@ use Rattle.gb_action.specs.Files.{Trees}
 use Rattle.gb_action.specs.Meanings.{Meanings}
 use Rattle.gb_action.specs.declared.output.OutputFiles.{OutputFiles}
 use Rattle.gb_core.specs.Place.{is_under}
-use Rattle.gb_folder.specs.Calls.{Requests, Call, IsPermitted, Lists, Reads, ReadsPart, Removes, Writes, changes_at, taken_at, takes_at, Device}
-use Rattle.gb_folder.proofs.Asked.{requests_taken, take_at, takes_where}
+use Rattle.gb_folder.specs.Calls.{Requests, Call, IsPermitted, Lists, Reads, ReadsPart, Removes, Writes, changes_at, put_at, taken_at, takes_at, Device}
+use Rattle.gb_folder.proofs.Asked.{change_at, requests_more, requests_put, requests_taken, requests_where, take_at, takes_where, taking_is_change}
 use Rattle.gb_folder.specs.Device.{Leads}
 use Rattle.gb_folder.specs.Each.{Each, Ended, OrStops}
 use Rattle.gb_folder.specs.Files.{Place, is_empty}
@@ -33,8 +33,8 @@ use Rattle.gb_report.specs.declared.fault.Fault.{Fault}
 use Rattle.gb_run.specs.Doing.{Ending, OrEnds}
 use Rattle.gb_run.specs.Emptying.{Emptying, IsFound, Listing, is_at_output}
 use Rattle.gb_run.specs.Work.{AreAtOutputs}
-use Rattle.gb_store.specs.Changes.{is_at}
-use Rattle.gb_store.specs.Removals.{Removal, Removals}
+use Rattle.gb_folder.specs.Changes.{is_at}
+use Rattle.gb_folder.specs.Removals.{Removal, Removals}
 use Rattle.gb_task.specs.Executing.{is_of_execution}
 use Rattle.gb_task.specs.Ran.{WasDone}
 use Rattle.gb_task.specs.Stages.{Clears, DeletesRecord, FullRun, IsOfFullRun, IsOfRunByChanges, RunByChanges, Silently, Stage, Stores, StoresUnless, Then, WritesAll, WritesChanges}
@@ -55,6 +55,18 @@ module _ {F : Type 0} {device : Device F} {old new : F} where
   -- the outputs are emptied
   pub outputs_taken : (task : Task) → Requests device (takes_at (is_output_of task)) old new → Requests device (takes_at (is_of_execution task)) old new
   outputs_taken task takes = takes_where (is_output_of task) (is_of_execution task) (at_output task) takes
+
+  -- what is taken is a change
+  pub taken_of : (task : Task) → Requests device (takes_at (is_of_execution task)) old new → Requests device (changes_at (is_of_execution task)) old new
+  taken_of task takes = requests_more (taking_is_change (is_of_execution task)) takes
+
+  -- files at the outputs are changed
+  pub outputs_of : (task : Task) → Requests device (changes_at (is_output_of task)) old new → Requests device (changes_at (is_of_execution task)) old new
+  outputs_of task changes = requests_where (is_output_of task) (is_of_execution task) (at_output task) changes
+
+  -- the record is stored
+  pub record_of : (task : Task) (bytes : List ℕ) → Requests device (put_at (record_place task.path) bytes) old new → Requests device (changes_at (is_of_execution task)) old new
+  record_of task bytes puts = requests_put (record_place task.path) bytes (change_at (is_of_execution task) (record_place task.path) (Some bytes) (at_record task)) puts
 
 -- ---- calls one after another
 

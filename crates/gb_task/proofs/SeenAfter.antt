@@ -3,22 +3,19 @@ use Rattle.std.specs.Prelude.{◌≡◌, Bool, true, false, List, [], ◌∷◌,
 use Rattle.std.proofs.Common.{arith, refl}
 use Rattle.std.proofs.lemmas.List.Elements.{Contains-append_left}
 use Rattle.gb_folder.specs.Calls.{Requests, no_change, Device}
-use Rattle.gb_folder.specs.Files.{Files}
 use Rattle.gb_folder.proofs.Asked.{requests_nothing}
 use Rattle.gb_history.specs.Record.{Record}
 use Rattle.gb_history.specs.declared.decide.Decision.TheVariants as decisions
-use Rattle.gb_label.specs.Preparing.{IsObserved}
 use Rattle.gb_label.specs.declared.prepare.Prepared.{Prepared}
 use Rattle.gb_label.specs.declared.prepare.Prepared.TheVariants as prepared
 use Rattle.gb_label.proofs.Answering.{decided_longer}
 use Rattle.gb_label.proofs.ReadingAnswering.{inputs_longer, outputs_were_read}
-use Rattle.gb_label.proofs.Readings.{outputs_as_read}
 use Rattle.gb_plan.specs.Task.{Path}
 use Rattle.gb_plan.specs.declared.task.TaskDeclaration.{TaskDeclaration as Task}
 use Rattle.gb_report.specs.declared.fault.Fault.{Fault}
 use Rattle.gb_report.specs.declared.report.Options.{Options}
-use Rattle.gb_tree.specs.Seen.{AreAmong, AreSeen, AreSeenIn, IsSeenIn, SeenFile, WasSeen}
-use Rattle.gb_tree.proofs.Remembering.{all_among, none_seen, none_seen_in, seen_in_remembered, seen_remembered}
+use Rattle.gb_tree.specs.Seen.{AreAmong, AreSeen, SeenFile, WasSeen}
+use Rattle.gb_tree.proofs.Remembering.{all_among, none_seen, seen_remembered}
 use Rattle.gb_label.specs.Answered.{WasPrepared}
 use Rattle.gb_task.specs.Current.{WasPreparedSince, is_current}
 use Rattle.gb_task.specs.Seen.{Remembers, seen_by}
@@ -72,17 +69,3 @@ module _ {F : Type 0} (device : Device F) (old new : F) (options : Options) (tas
       (outputs_were_read device since new task.outputs observed.outputs.items (prepares since earlier was).2.1)
   remembers path need (Ok (prepared.Decided (decisions.Incremental changes) basis observed)) e prepares = none_after seen e
   remembers path need (Ok (prepared.Decided decisions.Full basis observed)) e prepares = none_after seen e
-
--- in a folder whose contents are known
-module _ (task : Task) (files : Files) (seen middle : List SeenFile) where
-  pub remembers_in : (need : Bool) (result : Result Prepared Fault) → AreAmong seen (seen_by result need middle) → IfOk result (IsObserved task files)
-      → AreSeenIn files middle → AreSeenIn files seen
-  remembers_in need (Err fault) e observed_so there = none_seen_in files seen (none_after seen e)
-  remembers_in need (Ok prepared.Skips) e observed_so there = all_among (IsSeenIn files) seen middle e there
-  remembers_in true (Ok prepared.HasNoActions) e observed_so there = none_seen_in files seen (none_after seen e)
-  remembers_in false (Ok prepared.HasNoActions) e observed_so there = all_among (IsSeenIn files) seen middle e there
-  remembers_in need (Ok prepared.HasNoSource) e observed_so there = none_seen_in files seen (none_after seen e)
-  remembers_in need (Ok (prepared.Decided decisions.UpToDate basis observed)) e observed_so there =
-      seen_in_remembered files seen middle observed.outputs.items e there (outputs_as_read files task.outputs observed.outputs.items observed_so)
-  remembers_in need (Ok (prepared.Decided (decisions.Incremental changes) basis observed)) e observed_so there = none_seen_in files seen (none_after seen e)
-  remembers_in need (Ok (prepared.Decided decisions.Full basis observed)) e observed_so there = none_seen_in files seen (none_after seen e)

@@ -39,7 +39,7 @@ use Rattle.gb_report.specs.declared.report.Options.{Options}
 use Rattle.gb_run.specs.AskingChanges.{GoesOn, request_of, observed_of}
 use Rattle.gb_run.proofs.Looks.{find_kept}
 use Rattle.gb_run.proofs.Owned.{narrowed}
-use Rattle.gb_store.specs.Changes.{ChangesOnly, is_at}
+use Rattle.gb_folder.specs.Changes.{ChangesOnly, is_at}
 use Rattle.gb_task.proofs.Outside.{kept}
 use Rattle.gb_task.proofs.Own.{is_kept, kept_at}
 use Rattle.gb_task.proofs.Part.{from_same}

@@ -45,8 +45,8 @@ use Rattle.gb_run.specs.Stepping.{FailsByMachine}
 use Rattle.gb_run.proofs.CutEmptying.{cut_emptyings_invent_nothing, torn_places_are_of_the_emptying}
 use Rattle.gb_run.proofs.Endings.{all_done}
 use Rattle.gb_run.proofs.FailedRuns.{ended_runs_are_made, failed_runs_invent_nothing_in_full, failed_runs_print_prefixes}
-use Rattle.gb_store.specs.Changes.{ChangesOnly, is_at}
-use Rattle.gb_store.specs.Faults.{IsOfMachine}
+use Rattle.gb_folder.specs.Changes.{ChangesOnly, is_at}
+use Rattle.gb_folder.specs.Faults.{IsOfMachine}
 use Rattle.gb_tree.specs.Tree.{special_roots}
 use Rattle.gb_label.specs.Reading.{digests_in, is_input_of}
 use Rattle.gb_run.specs.AskingChanges.{IsFitting}

@@ -10,7 +10,7 @@ use Rattle.gb_meaning.specs.Execution.{IsWritten}
 use Rattle.gb_plan.specs.Task.{is_output_of}
 use Rattle.gb_plan.specs.declared.task.Output.{Output}
 use Rattle.gb_plan.specs.declared.task.TaskDeclaration.{TaskDeclaration as Task}
-use Rattle.gb_store.specs.Changes.{ChangesOnly, is_at}
+use Rattle.gb_folder.specs.Changes.{ChangesOnly, is_at}
 use Rattle.gb_task.proofs.Beside.{exists_outside, torn_outside, written_outside}
 use Rattle.gb_task.proofs.Outside.{kept}
 use Rattle.gb_task.proofs.Own.{is_kept, kept_at}

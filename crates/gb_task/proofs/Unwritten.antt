@@ -1,9 +1,7 @@
 -- The result of a record's fault, as a build reports it.
-use Rattle.std.specs.Prelude.{ℕ, ◌≡◌, ◌≢◌, true, Option, Err}
-use Rattle.std.specs.Cmp.Lexicographic.{bytes_decides}
+use Rattle.std.specs.Prelude.{ℕ, ◌≡◌, ◌≢◌, Option, Err}
 use Rattle.std.proofs.Common.{refl, inl, inr}
 use Rattle.gb_folder.specs.Files.{Bytes, Contents, Files, Place, Tearing}
-use Rattle.gb_history.specs.Places.{record_place}
 use Rattle.gb_meaning.specs.Memory.{Entry, Memory}
 use Rattle.gb_plan.specs.Task.{Path}
 use Rattle.gb_plan.specs.declared.task.TaskDeclaration.{TaskDeclaration as Task}
@@ -12,29 +10,17 @@ use Rattle.gb_records.specs.Holding.{ComesToNothing, HoldsWith, HoldsWithout}
 use Rattle.gb_records.specs.declared.fault.Unwritten.{Unwritten}
 use Rattle.gb_records.specs.declared.fault.Unwritten.TheVariants as unwritten
 use Rattle.gb_report.specs.declared.fault.Fault.TheVariants as faults
-use Rattle.gb_store.specs.Changes.{ChangesOnly, is_at}
-use Rattle.gb_store.proofs.Machine.{changes_left, changes_none}
 use Rattle.gb_task.specs.Keeping.{IsForgotten, IsRemembered, IsUnwritten}
 
 pub not_of_device : (fault : Unwritten) (place : Place) → reported_of fault ≢ faults.Device place
 not_of_device unwritten.OutOfMemory place e = cc
 not_of_device unwritten.NotWritten place e = cc
 
-pub at_itself : (place : Place) → is_at place place ≡ true
-at_itself place = (bytes_decides place place).1 refl
-
 pub why_unwritten : (may_leave : Tearing) (path : Path) (next : Option Bytes) (before after : ℕ) (old new : Contents) (fault : Unwritten)
     → ComesToNothing may_leave path next before after old fault new → IsUnwritten path next old.files before after (reported_of fault)
 why_unwritten may_leave path next before after old new unwritten.OutOfMemory nothing = inl refl
 why_unwritten may_leave path next before after old new unwritten.NotWritten (inl still) = inr (refl, inl still.1)
 why_unwritten may_leave path next before after old new unwritten.NotWritten (inr torn) = inr (refl, inr torn.0)
-
-pub changes_unwritten : (may_leave : Tearing) (path : Path) (next : Option Bytes) (before after : ℕ) (old new : Contents) (fault : Unwritten)
-    → ComesToNothing may_leave path next before after old fault new → ChangesOnly (is_at (record_place path)) old new
-changes_unwritten may_leave path next before after old new unwritten.OutOfMemory nothing = changes_none (is_at (record_place path)) old new nothing
-changes_unwritten may_leave path next before after old new unwritten.NotWritten (inl still) = changes_none (is_at (record_place path)) old new still.0
-changes_unwritten may_leave path next before after old new unwritten.NotWritten (inr torn) =
-    changes_left (is_at (record_place path)) old new (record_place path) torn.2.0 torn.2.2 (at_itself (record_place path))
 
 pub forgotten_reported : (path : Path) (memory : Memory) (fault : Unwritten) (files : Files) → HoldsWithout path memory (Err fault) files → IsForgotten path memory (Err (reported_of fault)) files
 forgotten_reported path memory unwritten.OutOfMemory files exists = exists

@@ -28,8 +28,8 @@ use Rattle.gb_run.specs.Failing.{Fails, FailsByItself, InFull, RunMode, files_th
 use Rattle.gb_run.specs.Laws.{run_input_in}
 use Rattle.gb_run.specs.Stepping.{FailsByMachine}
 use Rattle.gb_run.proofs.RunStates.{machine_before}
-use Rattle.gb_store.specs.Changes.{ChangesOnly}
-use Rattle.gb_store.specs.Faults.{IsOfMachine}
+use Rattle.gb_folder.specs.Changes.{ChangesOnly}
+use Rattle.gb_folder.specs.Faults.{IsOfMachine}
 use Rattle.gb_label.specs.Reading.{digests_in, is_input_of}
 use Rattle.gb_task.specs.Clearing.{HasCleared, IsCleared}
 use Rattle.gb_task.specs.Keeping.{IsRemembered, run_now, IsUnwritten}

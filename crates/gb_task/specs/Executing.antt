@@ -20,7 +20,7 @@ use Rattle.gb_report.specs.declared.report.Options.{Options}
 use Rattle.gb_report.specs.declared.report.Outcome.{Outcome}
 use Rattle.gb_report.specs.declared.report.Outcome.TheVariants as outcomes
 use Rattle.gb_report.specs.declared.report.TaskReport.{TaskReport}
-use Rattle.gb_store.specs.Changes.{is_at}
+use Rattle.gb_folder.specs.Changes.{is_at}
 use Rattle.gb_task.specs.Case.{IsKnown}
 
 -- what scripts declare, as a function of the files

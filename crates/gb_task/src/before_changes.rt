@@ -9,7 +9,7 @@ ghost use Rattle.gb_meaning.specs.Label.{Moment, some_outcome};
 ghost use Rattle.gb_meaning.specs.TrueRecord.{outside};
 ghost use Rattle.gb_plan.specs.Graph.{Plan, needs_in};
 ghost use Rattle.gb_report.specs.Outcome.{is_executed};
-ghost use Rattle.gb_tree.specs.Seen.{AreAmong, AreSeen, AreSeenIn};
+ghost use Rattle.gb_tree.specs.Seen.{AreAmong, AreSeen};
 ghost use Rattle.gb_task.specs.Case.{IsKnown};
 ghost use Rattle.gb_task.specs.Current.{WasSettled};
 ghost use Rattle.gb_task.specs.Seen.{Remembers, seen_by};
@@ -80,11 +80,10 @@ pub fn settle<F: Folder>(
         (option_copied last.entry) result }
     ensures remembers { Remembers F.device folder.old folder.new seen.old seen.new
         result }
-    ensures seen_in { F.device.faithful folder.new → AreSeenIn (F.device.contents folder.old).files seen.old
-        → AreSeenIn (F.device.contents folder.new).files seen.new }
     // If there is a report, it is that of the task's execution. Otherwise the result says which
     // case of the definition applies.
-    ensures settled { F.device.faithful folder.new → AreSeenIn (F.device.contents folder.old).files seen.old
+    ensures settled { F.device.faithful folder.new → (since : _)
+        → Requests F.device no_change since folder.old → AreSeen F.device since folder.old seen.old
         → (kinds : Kinds) (registry_of : Registering) (plan : Plan) (moment : Moment)
         → moment.world.folder ≡ outside (F.device.contents folder.old)
         → moment.failures ≡ F.device.failures folder.old

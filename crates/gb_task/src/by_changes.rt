@@ -2,7 +2,7 @@
 ghost use Rattle.std.specs.Prelude.{◌≡◌, ◌≤◌, [], List, false, true, map, IfOk, IfErr, OnOk};
 ghost use Rattle.std.specs.List.{AllByRecursion};
 ghost use Rattle.gb_action.specs.Files.{Trees};
-ghost use Rattle.gb_folder.specs.Calls.{Call, Requests, WhereKnown, changes_at};
+ghost use Rattle.gb_folder.specs.Calls.{Call, Requests, changes_at};
 ghost use Rattle.gb_folder.specs.Device.{Leads};
 ghost use Rattle.gb_label.specs.Deciding.{HasNamesInOrder};
 ghost use Rattle.gb_label.specs.Reading.{digests_in, prints_observed, observed_of};
@@ -21,8 +21,7 @@ ghost use Rattle.gb_run.specs.RunInput.{EndsWell, run_input};
 ghost use Rattle.gb_run.specs.Failing.{ByChanges, Fails};
 ghost use Rattle.gb_run.specs.Doing.{Ending};
 ghost use Rattle.gb_run.specs.Work.{ending};
-ghost use Rattle.gb_store.specs.Changes.{ChangesOnly};
-ghost use Rattle.gb_store.specs.Faults.{Blames, BlamesOnly};
+ghost use Rattle.gb_folder.specs.Faults.{Blames, BlamesOnly};
 ghost use Rattle.gb_task.specs.Buildable.{IsBuildable};
 ghost use Rattle.gb_task.specs.Stages.{HasMade, IsOfRunByChanges, RunByChanges, WritesChanges};
 ghost use Rattle.gb_task.specs.Executing.{BeginsAt, HasExecuted, IsDueByChanges, Registering};
@@ -69,11 +68,9 @@ pub(crate) fn run_by_decided_changes<A: Actions, F: Folder>(
     ensures ran { (calls : List Call) × Leads F.device folder.old calls folder.new
         × RunByChanges A.meanings table.now task.now inputs.trees changes outputs.observed calls lines.new
         result }
-    ensures back { F.device.faithful folder.new → F.device.faithful folder.old }
-    ensures count { F.device.failures folder.old ≤ F.device.failures folder.new }
+    ensures requests { Requests F.device (changes_at (is_of_execution task.now)) folder.old folder.new }
     ensures blame { Blames result (F.device.failures folder.old) (F.device.failures folder.new) }
     ensures blamed { BlamesOnly (is_output_of task.now) result }
-    ensures changes { WhereKnown F.device folder.old folder.new (ChangesOnly (is_of_execution task.now)) }
     // Where the incremental run by these changes is due, this is the task's execution.
     ensures execution { F.device.faithful folder.new → (kinds : Kinds) (registry_of : Registering)
         (options : Options)
@@ -131,7 +128,6 @@ fn make_by_changes<A: Actions, F: Folder>(
     // run.
     ensures made { IfOk result
         (IsOfRunByChanges A.meanings table.now task.now inputs.trees changes outputs.observed) }
-    ensures changes { WhereKnown F.device folder.old folder.new (ChangesOnly (is_output_of task.now)) }
     ensures ok { F.device.faithful folder.new → OnOk result ((kinds : Kinds)
         → Agrees A.meanings table.now kinds
         → (old : Trees)

@@ -14,7 +14,7 @@ ghost use Rattle.gb_label.specs.Looking.{IsHindered};
 ghost use Rattle.gb_label.specs.Preparing.{IsPrepared, IsRead, IsObserved, MayDecideAs, MayPrepare};
 ghost use Rattle.gb_label.specs.Reading.{is_input_of};
 ghost use Rattle.gb_plan.specs.Task.{is_output_of};
-ghost use Rattle.gb_store.specs.Faults.{Blames, BlamesOnly};
+ghost use Rattle.gb_folder.specs.Faults.{Blames, BlamesOnly};
 ghost use Rattle.gb_tree.specs.Seen.{AreSeen, AreSeenIn};
 ghost use Rattle.gb_task.specs.Current.{WasPreparedSince, is_current};
 
@@ -59,13 +59,13 @@ pub(crate) fn prepare_by_seen<F: Folder>(
     ensures seen { (since : _) → Requests F.device no_change since folder.old
         → AreSeen F.device since folder.old seen.old
         → AreSeen F.device since folder.new seen.new }
-    ensures prepared { F.device.faithful folder.new → AreSeenIn (F.device.contents folder.old).files seen.old
+    ensures prepared { F.device.faithful folder.new → (since : _)
+        → Requests F.device no_change since folder.old → AreSeen F.device since folder.old seen.old
         → IfOk result
         (IsPrepared options task.now (F.device.contents folder.old) (option_copied last.entry)) }
-    ensures observed { F.device.faithful folder.new → AreSeenIn (F.device.contents folder.old).files seen.old
+    ensures observed { F.device.faithful folder.new → (since : _)
+        → Requests F.device no_change since folder.old → AreSeen F.device since folder.old seen.old
         → IfOk result (IsObserved task.now (F.device.contents folder.old).files) }
-    ensures seen_in { F.device.faithful folder.new → AreSeenIn (F.device.contents folder.old).files seen.old
-        → AreSeenIn (F.device.contents folder.old).files seen.new }
     ensures err { F.device.faithful folder.new → IfErr result
         (IsHindered task.now (F.device.contents folder.old) (F.device.failures folder.old)
         (F.device.failures folder.new)) }

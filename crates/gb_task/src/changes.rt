@@ -2,7 +2,7 @@
 //! execution.
 ghost use Rattle.std.specs.Prelude.{◌≡◌, ◌≤◌, ◌⊎◌, ◌||◌, [], ℕ, List, false, true, not, IsTrue};
 ghost use Rattle.std.specs.List.{AllByRecursion};
-ghost use Rattle.gb_folder.specs.Calls.{Requests, WhereKnown, no_change};
+ghost use Rattle.gb_folder.specs.Calls.{Requests, changes_at, no_change};
 ghost use Rattle.gb_folder.specs.Files.{HasRisen, is_empty};
 ghost use Rattle.gb_label.specs.Looking.{lacks_source};
 ghost use Rattle.gb_label.specs.ReadingAnswered.{AreInputsAnswered, AreOutputsAnswered};
@@ -15,8 +15,7 @@ ghost use Rattle.gb_plan.specs.Task.{is_output_of, output_places};
 ghost use Rattle.gb_records.specs.Assumed.{IsAssumed};
 ghost use Rattle.gb_report.specs.declared.report.Outcome.TheVariants.{Failed};
 ghost use Rattle.gb_run.specs.AskingChanges.{CanGoOn};
-ghost use Rattle.gb_store.specs.Changes.{ChangesOnly};
-ghost use Rattle.gb_store.specs.Faults.{Blames, BlamesOnly};
+ghost use Rattle.gb_folder.specs.Faults.{Blames, BlamesOnly};
 ghost use Rattle.gb_task.specs.Buildable.{IsBuildable};
 ghost use Rattle.gb_task.specs.Ran.{EndsAs, OnlyRead, RanFrom};
 ghost use Rattle.gb_task.specs.Executing.{BeginsAt, HasExecuted, IsToGoOn, IsReportedOf, Registering};
@@ -59,7 +58,7 @@ pub fn execute_by_changes<A: Actions, F: Folder>(
     requires source { lacks_source task.now.files observed.inputs.items ≡ false }
     requires outputs { AreOutputs task.now observed.outputs.items }
     ensures path { result.path ≡ task.now.path }
-    ensures back { F.device.faithful folder.new → F.device.faithful folder.old }
+    ensures requests { Requests F.device (changes_at (is_of_execution task.now)) folder.old folder.new }
     ensures has_actions { result.has_actions ≡ not (is_empty task.now.actions) }
     ensures outcome { IsReportedOf outcome_of result.outcome }
     // Over any folder: where calls returned its inputs and outputs since a state of the folder, without
@@ -70,12 +69,10 @@ pub fn execute_by_changes<A: Actions, F: Folder>(
         → EndsAs (λ ended. OnlyRead F.device result.lines ended first folder.new
         ⊎ RanFrom F.device A.meanings table.now task.now options last.now result.lines
         ended first folder.new) result.outcome }
-    ensures count { F.device.failures folder.old ≤ F.device.failures folder.new }
     ensures blame { (place : List ℕ) → result.outcome ≡ Failed (Fault.Device place)
         → HasRisen (F.device.failures folder.old) (F.device.failures folder.new) }
     ensures blamed { (place : List ℕ) → result.outcome ≡ Failed (Fault.Device place)
         → IsTrue (is_input_of task.now place || is_output_of task.now place) }
-    ensures changes { WhereKnown F.device folder.old folder.new (ChangesOnly (is_of_execution task.now)) }
     // Where the task runs incrementally, based on its record, this is its execution.
     ensures execution { F.device.faithful folder.new → (kinds : Kinds) (registry_of : Registering)
         (plan : Plan) (moment : Moment) → IsAssumed A.meanings table.now kinds (F.device.may_leave folder.old)
@@ -127,11 +124,9 @@ fn go_on<A: Actions, F: Folder>(
         → OnlyRead F.device lines.new result first folder.new
         ⊎ RanFrom F.device A.meanings table.now task.now options last.now lines.new
         result first folder.new }
-    ensures back { F.device.faithful folder.new → F.device.faithful folder.old }
-    ensures count { F.device.failures folder.old ≤ F.device.failures folder.new }
+    ensures requests { Requests F.device (changes_at (is_of_execution task.now)) folder.old folder.new }
     ensures blame { Blames result (F.device.failures folder.old) (F.device.failures folder.new) }
     ensures blamed { BlamesOnly (λ place. is_input_of task.now place || is_output_of task.now place) result }
-    ensures changes { WhereKnown F.device folder.old folder.new (ChangesOnly (is_of_execution task.now)) }
     ensures execution { F.device.faithful folder.new → (kinds : Kinds) (registry_of : Registering)
         (plan : Plan) (moment : Moment) → IsAssumed A.meanings table.now kinds (F.device.may_leave folder.old)
         → BeginsAt task.now true (F.device.contents folder.old) (F.device.failures folder.old) moment

@@ -1,7 +1,7 @@
 //! Deletes the record and the outputs of a task's previous execution.
 ghost use Rattle.std.specs.Prelude.{◌≡◌, [], List, None, false};
 ghost use Rattle.std.specs.List.{list_any};
-ghost use Rattle.gb_folder.specs.Calls.{Call, Requests, WhereKnown, takes_at};
+ghost use Rattle.gb_folder.specs.Calls.{Call, Requests, takes_at};
 ghost use Rattle.gb_folder.specs.Device.{Leads};
 ghost use Rattle.gb_folder.specs.Files.{is_own};
 ghost use Rattle.gb_history.specs.Places.{record_place};
@@ -10,8 +10,7 @@ ghost use Rattle.gb_meaning.specs.Memory.{Memory, recalled};
 ghost use Rattle.gb_plan.specs.Task.{is_output_of};
 ghost use Rattle.gb_records.specs.Said.{IsText};
 ghost use Rattle.gb_records.specs.Holding.{HoldsRecords};
-ghost use Rattle.gb_store.specs.Changes.{ChangesOnly};
-ghost use Rattle.gb_store.specs.Faults.{Blames, BlamesOnly};
+ghost use Rattle.gb_folder.specs.Faults.{Blames, BlamesOnly};
 ghost use Rattle.gb_task.specs.Clearing.{HasCleared};
 ghost use Rattle.gb_task.specs.Executing.{is_of_execution};
 ghost use Rattle.gb_task.specs.Stages.{Clears};
@@ -39,7 +38,6 @@ pub fn clear<F: Folder>(
         folder.new }
     ensures blame { Blames result (F.device.failures folder.old) (F.device.failures folder.new) }
     ensures blamed { BlamesOnly (is_output_of task.now) result }
-    ensures changes { WhereKnown F.device folder.old folder.new (ChangesOnly (is_of_execution task.now)) }
     ensures cleared { F.device.faithful folder.new → TornWritesAreDetected IsText record_place
         (F.device.may_leave folder.old)
         → (memory : Memory) → HoldsRecords (F.device.contents folder.old).files memory

@@ -3,7 +3,7 @@ ghost use Rattle.std.specs.Prelude.{◌≡◌, ◌≤◌, ◌≢◌, ◌⊎◌, 
 ghost use Rattle.std.specs.Prelude.{option_copied};
 ghost use Rattle.std.specs.List.{AllByRecursion};
 ghost use Rattle.gb_action.specs.Changes.{Changes};
-ghost use Rattle.gb_folder.specs.Calls.{Requests, WhereKnown, no_change};
+ghost use Rattle.gb_folder.specs.Calls.{Requests, changes_at, no_change};
 ghost use Rattle.gb_folder.specs.Files.{HasRisen, is_empty};
 ghost use Rattle.gb_label.specs.Answered.{WasDecided};
 ghost use Rattle.gb_label.specs.Looking.{lacks_source};
@@ -21,8 +21,7 @@ ghost use Rattle.gb_report.specs.Outcome.{is_executed, is_started};
 ghost use Rattle.gb_report.specs.declared.report.Options.{Options};
 ghost use Rattle.gb_report.specs.declared.report.Outcome.TheVariants.{Failed};
 ghost use Rattle.gb_run.specs.AskingChanges.{CanGoOn};
-ghost use Rattle.gb_store.specs.Changes.{ChangesOnly};
-ghost use Rattle.gb_tree.specs.Seen.{AreSeen, AreSeenIn};
+ghost use Rattle.gb_tree.specs.Seen.{AreSeen};
 ghost use Rattle.gb_task.specs.Buildable.{IsBuildable};
 ghost use Rattle.gb_task.specs.Case.{IsCaseFor, IsKnown};
 ghost use Rattle.gb_task.specs.Executions.{IsRunFor, is_by_changes};
@@ -73,7 +72,6 @@ pub fn execute_task<A: Actions, F: Folder>(
     requires outputs_separate { some_overlap (output_places task.now) ≡ false }
     requires path { path ≡ task.now.path }
     ensures path { result.path ≡ task.now.path }
-    ensures back { F.device.faithful folder.new → F.device.faithful folder.old }
     ensures has_actions { result.has_actions ≡ not (is_empty task.now.actions) }
     // Over any folder: which calls were made, stage by stage, up to the first that failed; with which
     // bytes; and what they were based on. A task that is skipped or up to date requests no change, and
@@ -98,13 +96,11 @@ pub fn execute_task<A: Actions, F: Folder>(
     ensures alone { IsAnsweredAlone task.now.runs (is_empty task.now.actions) has_executed_need
         result.outcome }
     ensures answer { IsAnswer options task.now result }
-    ensures changes { WhereKnown F.device folder.old folder.new (ChangesOnly (is_of_execution task.now)) }
-    ensures seen_in { F.device.faithful folder.new → AreSeenIn (F.device.contents folder.old).files seen.old
-        → AreSeenIn (F.device.contents folder.new).files seen.new }
     // Where contents are known and kinds agree: if what was read is the record of what is
     // remembered, or none where nothing is, and that is true and collision-free with what the task
     // has now (`IsKnown`), this is its execution by the definitions.
-    ensures execution { F.device.faithful folder.new → AreSeenIn (F.device.contents folder.old).files seen.old
+    ensures execution { F.device.faithful folder.new → (since : _)
+        → Requests F.device no_change since folder.old → AreSeen F.device since folder.old seen.old
         → (kinds : Kinds) (registry_of : Registering) (plan : Plan) (moment : Moment)
         → IsAssumed A.meanings table.now kinds (F.device.may_leave folder.old)
         → BeginsAt task.now (is_some (option_copied last.entry)) (F.device.contents folder.old)
@@ -156,7 +152,7 @@ fn run<A: Actions, F: Folder>(
     requires read { IsReadFor task.now observed decision }
     requires source { lacks_source task.now.files observed.inputs.items ≡ false }
     ensures path { result.path ≡ task.now.path }
-    ensures back { F.device.faithful folder.new → F.device.faithful folder.old }
+    ensures requests { Requests F.device (changes_at (is_of_execution task.now)) folder.old folder.new }
     ensures has_actions { result.has_actions ≡ not (is_empty task.now.actions) }
     ensures outcome { IsReportedOf outcome_of result.outcome }
     // Over any folder: where calls returned what it was decided on since a state of the folder, without
@@ -168,12 +164,10 @@ fn run<A: Actions, F: Folder>(
         → EndsAs (λ ended. OnlyRead F.device result.lines ended first folder.new
         ⊎ WasRun F.device A.meanings table.now task.now options
         (option_copied last.entry) result.lines ended first folder.new) result.outcome }
-    ensures count { F.device.failures folder.old ≤ F.device.failures folder.new }
     ensures blame { (place : List ℕ) → result.outcome ≡ Failed (Fault.Device place)
         → HasRisen (F.device.failures folder.old) (F.device.failures folder.new) }
     ensures blamed { (place : List ℕ) → result.outcome ≡ Failed (Fault.Device place)
         → IsTrue (is_input_of task.now place || is_output_of task.now place) }
-    ensures changes { WhereKnown F.device folder.old folder.new (ChangesOnly (is_of_execution task.now)) }
     ensures execution { F.device.faithful folder.new → (kinds : Kinds) (registry_of : Registering)
         (plan : Plan) (moment : Moment) → IsAssumed A.meanings table.now kinds (F.device.may_leave folder.old)
         → BeginsAt task.now (is_some (option_copied last.entry)) (F.device.contents folder.old)

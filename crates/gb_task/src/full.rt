@@ -1,7 +1,7 @@
 //! A full run of a task.
 ghost use Rattle.std.specs.Prelude.{◌≡◌, ◌≤◌, ◌⊎◌, ◌||◌, [], ℕ, List, false, not, map};
 ghost use Rattle.std.specs.Prelude.{IsTrue, IfOk, IfErr, OnOk};
-ghost use Rattle.gb_folder.specs.Calls.{Call, Requests, WhereKnown, changes_at, no_change};
+ghost use Rattle.gb_folder.specs.Calls.{Call, Requests, changes_at, no_change};
 ghost use Rattle.gb_folder.specs.Device.{Leads};
 ghost use Rattle.gb_folder.specs.Files.{HasRisen, is_empty};
 ghost use Rattle.gb_label.specs.Deciding.{HasNamesInOrder};
@@ -22,8 +22,7 @@ ghost use Rattle.gb_run.specs.RunInput.{EndsWell, run_input};
 ghost use Rattle.gb_run.specs.Failing.{Fails, InFull};
 ghost use Rattle.gb_run.specs.Doing.{Ending};
 ghost use Rattle.gb_run.specs.Work.{ending};
-ghost use Rattle.gb_store.specs.Changes.{ChangesOnly};
-ghost use Rattle.gb_store.specs.Faults.{Blames, BlamesOnly};
+ghost use Rattle.gb_folder.specs.Faults.{Blames, BlamesOnly};
 ghost use Rattle.gb_task.specs.Buildable.{IsBuildable};
 ghost use Rattle.gb_task.specs.Ran.{EndsAs, OnlyRead, RanInFull};
 ghost use Rattle.gb_task.specs.Stages.{FullRun, HasMade, IsOfFullRun, WritesGiven};
@@ -70,7 +69,7 @@ pub fn execute_in_full<A: Actions, F: Folder>(
     requires inputs { AreInputs task.now inputs.items }
     requires source { lacks_source task.now.files inputs.items ≡ false }
     ensures path { result.path ≡ task.now.path }
-    ensures back { F.device.faithful folder.new → F.device.faithful folder.old }
+    ensures requests { Requests F.device (changes_at (is_of_execution task.now)) folder.old folder.new }
     ensures has_actions { result.has_actions ≡ not (is_empty task.now.actions) }
     ensures outcome { IsReportedOf outcome_of result.outcome }
     // Over any folder: where calls returned its inputs since a state of the folder, without a change,
@@ -80,12 +79,10 @@ pub fn execute_in_full<A: Actions, F: Folder>(
         → EndsAs (λ ended. OnlyRead F.device result.lines ended first folder.new
         ⊎ RanInFull F.device A.meanings table.now task.now was_read result.lines ended
         first folder.new) result.outcome }
-    ensures count { F.device.failures folder.old ≤ F.device.failures folder.new }
     ensures blame { (place : List ℕ) → result.outcome ≡ Failed (Fault.Device place)
         → HasRisen (F.device.failures folder.old) (F.device.failures folder.new) }
     ensures blamed { (place : List ℕ) → result.outcome ≡ Failed (Fault.Device place)
         → IsTrue (is_input_of task.now place || is_output_of task.now place) }
-    ensures changes { WhereKnown F.device folder.old folder.new (ChangesOnly (is_of_execution task.now)) }
     // Where the full run is due, this is the task's execution.
     ensures execution { F.device.faithful folder.new → (kinds : Kinds) (registry_of : Registering)
         (options : Options)
@@ -140,11 +137,9 @@ fn run_with_record<A: Actions, F: Folder>(
         → OnlyRead F.device lines.new result first folder.new
         ⊎ RanInFull F.device A.meanings table.now task.now was_read lines.new result
         first folder.new }
-    ensures back { F.device.faithful folder.new → F.device.faithful folder.old }
-    ensures count { F.device.failures folder.old ≤ F.device.failures folder.new }
+    ensures requests { Requests F.device (changes_at (is_of_execution task.now)) folder.old folder.new }
     ensures blame { Blames result (F.device.failures folder.old) (F.device.failures folder.new) }
     ensures blamed { BlamesOnly (λ place. is_input_of task.now place || is_output_of task.now place) result }
-    ensures changes { WhereKnown F.device folder.old folder.new (ChangesOnly (is_of_execution task.now)) }
     ensures execution { F.device.faithful folder.new → (kinds : Kinds) (registry_of : Registering)
         (options : Options)
         (plan : Plan) (moment : Moment) → IsAssumed A.meanings table.now kinds (F.device.may_leave folder.old)
@@ -179,11 +174,9 @@ pub(crate) fn run_on<A: Actions, F: Folder>(
     // Over any folder: it is a full run on these inputs, by these calls.
     ensures ran { (calls : List Call) × Leads F.device folder.old calls folder.new
         × FullRun A.meanings table.now task.now inputs.trees was_read calls lines.new result }
-    ensures back { F.device.faithful folder.new → F.device.faithful folder.old }
-    ensures count { F.device.failures folder.old ≤ F.device.failures folder.new }
+    ensures requests { Requests F.device (changes_at (is_of_execution task.now)) folder.old folder.new }
     ensures blame { Blames result (F.device.failures folder.old) (F.device.failures folder.new) }
     ensures blamed { BlamesOnly (is_output_of task.now) result }
-    ensures changes { WhereKnown F.device folder.old folder.new (ChangesOnly (is_of_execution task.now)) }
     ensures execution { F.device.faithful folder.new → (kinds : Kinds) (registry_of : Registering)
         (options : Options)
         (plan : Plan) (moment : Moment) → IsAssumed A.meanings table.now kinds (F.device.may_leave folder.old)
@@ -230,7 +223,6 @@ fn make_in_full<A: Actions, F: Folder>(
         × HasMade ran (ending result) }
     // Over any folder, whoever else writes in it: the record is true.
     ensures made { IfOk result (IsOfFullRun A.meanings table.now task.now trees) }
-    ensures changes { WhereKnown F.device folder.old folder.new (ChangesOnly (is_output_of task.now)) }
     ensures ok { F.device.faithful folder.new → OnOk result ((kinds : Kinds)
         → Agrees A.meanings table.now kinds
         → EndsWell (run_input kinds task.now trees changes (F.device.contents folder.old).files)

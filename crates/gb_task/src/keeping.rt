@@ -1,7 +1,6 @@
 //! The record of a task: deleted as its run begins, and stored as it ends.
 ghost use Rattle.std.specs.Prelude.{◌≡◌, ◌≢◌, ℕ, List, None, Some, Err, false, true, IfErr, OnErr};
-ghost use Rattle.std.specs.Prelude.{OnOk};
-ghost use Rattle.gb_folder.specs.Calls.{Call, Requests, WhereKnown, put_at, taken_at};
+ghost use Rattle.gb_folder.specs.Calls.{Call, Requests, put_at, taken_at};
 ghost use Rattle.gb_folder.specs.Device.{Leads};
 ghost use Rattle.gb_folder.specs.Files.{is_empty};
 ghost use Rattle.gb_history.specs.Places.{record_place};
@@ -10,7 +9,6 @@ ghost use Rattle.gb_meaning.specs.Headline.{TornWritesAreDetected};
 ghost use Rattle.gb_meaning.specs.Memory.{Entry, Memory, recalled};
 ghost use Rattle.gb_records.specs.Said.{IsSaidOf, IsText};
 ghost use Rattle.gb_records.specs.Holding.{HoldsRecords};
-ghost use Rattle.gb_store.specs.Changes.{ChangesOnly, is_at};
 ghost use Rattle.gb_task.specs.Keeping.{IsForgotten, IsRemembered, IsUnwritten};
 ghost use Rattle.gb_task.specs.Stages.{DeletesRecord, StoresRecord};
 
@@ -35,8 +33,6 @@ pub fn forget<F: Folder>(
     ensures requests { Requests F.device (taken_at (record_place path.now)) folder.old
         folder.new }
     ensures blame { (place : List ℕ) → result ≢ Err (Fault.Device place) }
-    ensures changes { WhereKnown F.device folder.old folder.new
-        (ChangesOnly (is_at (record_place path.now))) }
     ensures err { F.device.faithful folder.new → IfErr result
         (IsUnwritten path.now None (F.device.contents folder.old).files (F.device.failures folder.old)
         (F.device.failures folder.new)) }
@@ -72,8 +68,6 @@ pub fn remember<F: Folder>(
     ensures calls { (calls : List Call) × Leads F.device folder.old calls folder.new
         × StoresRecord task.now run.now calls result }
     ensures blame { (place : List ℕ) → result ≢ Err (Fault.Device place) }
-    ensures changes { WhereKnown F.device folder.old folder.new
-        (ChangesOnly (is_at (record_place task.now.path))) }
     ensures err { F.device.faithful folder.new → IfErr result
         (IsUnwritten task.now.path (Some (record_text task.now.path run.now))
         (F.device.contents folder.old).files

@@ -4,7 +4,7 @@
 //! keep. Then it decides once more, on the digests of exactly these contents: a file that somebody
 //! saved in between is a change like any other, and where outputs or other properties were changed
 //! the run is a full one.
-ghost use Rattle.std.specs.Prelude.{◌≡◌, ◌||◌, false, map, IfOk, IfErr, OnOk};
+ghost use Rattle.std.specs.Prelude.{◌≡◌, ◌||◌, false, IfOk, IfErr};
 ghost use Rattle.std.specs.List.{list_any};
 ghost use Rattle.gb_folder.specs.Calls.{OnlyReads, Requests, no_change};
 ghost use Rattle.gb_folder.specs.Files.{is_own};
@@ -16,7 +16,7 @@ ghost use Rattle.gb_meaning.specs.Kinds.{Kinds};
 ghost use Rattle.gb_meaning.specs.Memory.{World};
 ghost use Rattle.gb_meaning.specs.TrueRecord.{outside};
 ghost use Rattle.gb_plan.specs.Task.{is_output_of};
-ghost use Rattle.gb_store.specs.Faults.{Blames, BlamesOnly, IsOfMachine};
+ghost use Rattle.gb_folder.specs.Faults.{Blames, BlamesOnly, IsOfMachine};
 ghost use Rattle.gb_task.specs.Recheck.{IsRecheck, IsAsBefore, recheck_by};
 ghost use Rattle.gb_task.specs.Current.{WasReadRecheck};
 ghost use Rattle.gb_task.specs.Executing.{IsToGoOn};

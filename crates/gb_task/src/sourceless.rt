@@ -1,7 +1,7 @@
 //! The execution of a task without source.
 ghost use Rattle.std.specs.Prelude.{◌≡◌, [], ℕ, List, Some, false, not, IsTrue};
 ghost use Rattle.std.specs.List.{list_any};
-ghost use Rattle.gb_folder.specs.Calls.{Call, Requests, WhereKnown, takes_at};
+ghost use Rattle.gb_folder.specs.Calls.{Call, Requests, takes_at};
 ghost use Rattle.gb_folder.specs.Device.{Leads};
 ghost use Rattle.gb_folder.specs.Files.{HasRisen, is_empty, is_own};
 ghost use Rattle.gb_history.specs.Places.{record_place};
@@ -13,7 +13,6 @@ ghost use Rattle.gb_plan.specs.Task.{is_output_of};
 ghost use Rattle.gb_records.specs.Said.{IsText};
 ghost use Rattle.gb_report.specs.declared.report.Options.{Options};
 ghost use Rattle.gb_report.specs.declared.report.Outcome.TheVariants.{Failed};
-ghost use Rattle.gb_store.specs.Changes.{ChangesOnly};
 ghost use Rattle.gb_task.specs.Executing.{BeginsAt, HasExecuted, IsReportedOf, Registering, cleared_outcome};
 ghost use Rattle.gb_task.specs.Executing.{is_of_execution, setting_with};
 ghost use Rattle.gb_run.specs.Doing.{Ending};
@@ -54,7 +53,6 @@ pub fn execute_without_source<F: Folder>(
         → HasRisen (F.device.failures folder.old) (F.device.failures folder.new) }
     ensures blamed { (place : List ℕ) → result.outcome ≡ Failed (Fault.Device place)
         → IsTrue (is_output_of task.now place) }
-    ensures changes { WhereKnown F.device folder.old folder.new (ChangesOnly (is_of_execution task.now)) }
     // Where the task has no source, this is its execution.
     ensures execution { F.device.faithful folder.new → (kinds : Kinds) (registry_of : Registering)
         (options : Options)

@@ -27,3 +27,4 @@ pub mod Small
 pub mod Comparing
 pub mod Rooted
 pub mod Remembering
+pub mod Known

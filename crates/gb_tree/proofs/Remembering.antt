@@ -132,18 +132,6 @@ seen_observed_in files seen path place digest among all =
 pub none_seen_in : (files : Files) (seen : List SeenFile) → seen ≡ [] → AreSeenIn files seen
 none_seen_in files seen none = subst (λ (those : List SeenFile). AreSeenIn files those) (sym none) tt
 
-pub seen_in_remembered : (files : Files) (seen old : List SeenFile) (readings : List (List ℕ × List ScannedFile)) → AreAmong seen (old ++ seen_in readings)
-    → AreSeenIn files old → AllByRecursion (λ reading. AllByRecursion (IsObservedIn files) reading.1) readings → AreSeenIn files seen
-seen_in_remembered files seen old readings among before are =
-    all_among (IsSeenIn files) seen (old ++ seen_in readings) among (all_append (IsSeenIn files) old (seen_in readings) before
-    (all_seen (IsSeenIn files) (IsObservedIn files) (λ file is. record { exists = is.exists; small = is.small; digested = is.digested }) readings are))
-
--- the same of the files of one reading
-pub files_in_remembered : (files : Files) (seen old : List SeenFile) (read : List ScannedFile) → AreAmong seen (old ++ places_read read)
-    → AreSeenIn files old → AllByRecursion (IsObservedIn files) read → AreSeenIn files seen
-files_in_remembered files seen old read among before are =
-    seen_in_remembered files seen old (([], read) ∷ []) (subst (λ (more : List SeenFile). AreAmong seen (old ++ more)) (sym (append-nil (places_read read))) among) before (are, tt)
-
 -- it is known as long as the contents stay the same
 pub known_still : (old now : Contents) (seen : List SeenFile) → now ≡ old → AreSeenIn old.files seen → AreSeenIn now.files seen
 known_still old now seen same known = subst (λ (contents : Contents). AreSeenIn contents.files seen) (sym same) known

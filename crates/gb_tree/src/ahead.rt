@@ -1,11 +1,9 @@
 //! Reads files before it is their turn, so that files of different tasks are digested four at a
 //! time.
 ghost use Rattle.std.specs.Prelude.{◌≡◌, ◌++◌, IfOk, IfSome};
-ghost use Rattle.std.specs.List.{AllByRecursion};
 ghost use Rattle.gb_folder.specs.Calls.{OnlyReads, Requests, no_change};
 ghost use Rattle.gb_tree.specs.Answered.{WasObserved, WereObserved};
-ghost use Rattle.gb_tree.specs.Reading.{IsObservedIn};
-ghost use Rattle.gb_tree.specs.Seen.{AreSeen, AreSeenIn};
+ghost use Rattle.gb_tree.specs.Seen.{AreSeen};
 ghost use Rattle.gb_tree.specs.Waiting.{file_in, waiting_files};
 
 use crate::kept::ScannedFile;
@@ -28,8 +26,6 @@ pub fn read_ahead<F: Folder>(alloc: Global, folder: &mut F, roots: &[Place], see
     ensures seen { (since : _) → Requests F.device no_change since folder.old
         → AreSeen F.device since folder.old seen.old
         → AreSeen F.device since folder.new seen.new }
-    ensures seen_in { F.device.faithful folder.new → AreSeenIn (F.device.contents folder.old).files seen.old
-        → AreSeenIn (F.device.contents folder.old).files seen.new }
 {
     if roots.is_empty() {
         return;
@@ -49,8 +45,6 @@ fn scan_roots<F: Folder>(
     ensures reads { OnlyReads F.device folder.old folder.new }
     ensures answered { IfOk result
         (λ files. WereObserved F.device folder.old folder.new files.items) }
-    ensures observed { F.device.faithful folder.new → IfOk result
-        (λ files. AllByRecursion (IsObservedIn (F.device.contents folder.old).files) files.items) }
 {
     let mut files = Vec::with_capacity(alloc, roots.len())?;
     let mut waiting = Waiting::Nothing;
@@ -74,11 +68,6 @@ fn scan_root<F: Folder>(
         → WereObserved F.device first folder.old
         (files.old.items ++ waiting_files waiting)
         → IfOk result (λ left. WereObserved F.device first folder.new
-        (files.new.items ++ waiting_files left)) }
-    ensures observed { F.device.faithful folder.new
-        → AllByRecursion (IsObservedIn (F.device.contents folder.old).files)
-        (files.old.items ++ waiting_files waiting)
-        → IfOk result (λ left. AllByRecursion (IsObservedIn (F.device.contents folder.old).files)
         (files.new.items ++ waiting_files left)) }
 {
     let places = few_at(alloc, folder, root);
@@ -119,8 +108,6 @@ fn scan_place<F: Folder>(alloc: Global, folder: &mut F, place: &Place) -> Option
     ensures reads { OnlyReads F.device folder.old folder.new }
     ensures answered { IfSome result
         (λ found. WasObserved F.device folder.old folder.new (file_in found)) }
-    ensures observed { F.device.faithful folder.new → IfSome result
-        (λ found. IsObservedIn (F.device.contents folder.old).files (file_in found)) }
 {
     let path = RelPath::read(alloc, "").ok()?;
     scan_file(alloc, folder, &path, place, &mut 0).ok()

@@ -1,5 +1,5 @@
 //! Lists files and reads or digests them, one after another.
-ghost use Rattle.std.specs.Prelude.{◌≡◌, ◌≤◌, ◌⊎◌, [], length, take, drop, None, Some, false, true, IsTrue};
+ghost use Rattle.std.specs.Prelude.{◌≡◌, ◌≤◌, ◌⊎◌, [], length, take, drop, false, true, IsTrue};
 ghost use Rattle.std.specs.Prelude.{IsSome, IfOk, IfErr, OnOk};
 ghost use Rattle.std.specs.List.{AllByRecursion, AllPass};
 ghost use Rattle.std.specs.List.Sorted.{IsStrictlySortedBy};
@@ -67,12 +67,6 @@ pub(crate) fn read_file<F: Folder>(
         (F.device.failures folder.old) (F.device.failures folder.new) result }
     ensures answered { IfOk result (λ bytes. WereRead F.device
         folder.old folder.new place.now bytes) }
-    ensures read { F.device.faithful folder.new → IfOk result
-        (λ bytes. bytes ≡ bytes_at (F.device.contents folder.old).files place.now) }
-    ensures exists { F.device.faithful folder.new → OnOk result
-        (IsSome (file_at (F.device.contents folder.old).files place.now)) }
-    ensures small { F.device.faithful folder.new → OnOk result
-        (is_large (F.device.contents folder.old).files place.now ≡ false) }
     ensures err { F.device.faithful folder.new
         → IsSome (file_at (F.device.contents folder.old).files place.now)
         → IfErr result (λ fault. IsTreeFaultBetween F.device folder.old folder.new fault

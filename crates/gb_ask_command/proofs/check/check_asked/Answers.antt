@@ -10,8 +10,8 @@ use Rattle.gb_registry.specs.Tables.{tables_of}
 use Rattle.gb_registry.specs.declared.tables.Tables as tables_of_code
 use Rattle.gb_report.specs.declared.fault.Fault.{Fault}
 use Rattle.gb_script.specs.declared.script.Statement.{Statement}
-use Rattle.gb_store.proofs.Machine.{machine_after, machine_before}
-use Rattle.gb_store.specs.Faults.{IsOfMachine}
+use Rattle.gb_folder.proofs.Machine.{machine_after, machine_before}
+use Rattle.gb_folder.specs.Faults.{IsOfMachine}
 use Rattle.gb_ask_command.specs.Check.{AreFindingsOf, IsChecked, IsFoundAt}
 use Rattle.gb_ask_command.specs.Faulty.{IsFaultless, IsTextFault}
 use Rattle.gb_ask_command.proofs.Again.{match_of, none_again}

@@ -6,8 +6,8 @@ use Rattle.gb_folder.specs.Files.{Contents}
 use Rattle.gb_registry.specs.Tables.{tables_of}
 use Rattle.gb_registry.specs.declared.first_fault.FaultAt.{FaultAt}
 use Rattle.gb_report.specs.declared.fault.Fault.{Fault}
-use Rattle.gb_store.proofs.Machine.{machine_before}
-use Rattle.gb_store.specs.Faults.{IsOfMachine}
+use Rattle.gb_folder.proofs.Machine.{machine_before}
+use Rattle.gb_folder.specs.Faults.{IsOfMachine}
 use Rattle.gb_ask_command.specs.Faulty.{IsFaultless, IsFaulty, IsTextFault}
 use Rattle.gb_ask_command.proofs.Again.{faulty_again}
 use Rattle.gb_ask_command.proofs.check.statement_found.Goals as goal

@@ -3,7 +3,7 @@ use Rattle.std.specs.List.{list_all}
 use Rattle.gb_core.specs.Place.{is_place}
 use Rattle.gb_registry.specs.Projects.{projects_of}
 use Rattle.gb_registry.specs.Tables.{tables_of}
-use Rattle.gb_store.proofs.Machine.{machine_before}
+use Rattle.gb_folder.proofs.Machine.{machine_before}
 use Rattle.gb_ask_command.proofs.FaultyLemmas.{Refused, faulty, memory_alone}
 use Rattle.gb_build.proofs.PlaceLemmas.{places_good}
 use Rattle.gb_build.proofs.SaidLemmas.{handed, scripts_here}

@@ -5,7 +5,7 @@ use Rattle.std.proofs.lemmas.List.{take_all}
 use Rattle.std.proofs.lemmas.Result.{err_from_is_err_and}
 use Rattle.gb_folder.specs.Each.{Ended}
 use Rattle.gb_report.specs.declared.fault.Fault.{Fault}
-use Rattle.gb_store.proofs.Machine.{at_err}
+use Rattle.gb_folder.proofs.Machine.{at_err}
 use Rattle.gb_ask_command.specs.Fmt.{IsTreated}
 use Rattle.gb_ask_command.proofs.Treating.{AllDone, all_more, all_none, all_short}
 use Rattle.gb_ask_command.proofs.fmt.treat_all.Goals as goal

@@ -2,7 +2,7 @@ use Rattle.std.specs.Prelude.{string_bytes}
 use Rattle.std.proofs.lemmas.Result.{err_from_is_err_and}
 use Rattle.gb_folder.specs.Each.{Ended}
 use Rattle.gb_report.specs.declared.fault.Fault.{Fault}
-use Rattle.gb_store.proofs.Machine.{at_err}
+use Rattle.gb_folder.proofs.Machine.{at_err}
 use Rattle.gb_ask_command.specs.Fmt.{IsTreated}
 use Rattle.gb_ask_command.proofs.Treating.{OneDone, one_done, one_fails}
 use Rattle.gb_ask_command.proofs.fmt.treat_one.Goals as goal

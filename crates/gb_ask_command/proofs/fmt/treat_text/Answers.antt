@@ -4,7 +4,7 @@ use Rattle.std.specs.declared.string.String.{String}
 use Rattle.std.specs.Prelude.{string_bytes}
 use Rattle.std.proofs.lemmas.Result.{err_from_is_err_and}
 use Rattle.gb_report.specs.declared.fault.Fault.{Fault}
-use Rattle.gb_store.proofs.Machine.{at_err}
+use Rattle.gb_folder.proofs.Machine.{at_err}
 use Rattle.gb_ask_command.specs.Fmt.{string_in}
 use Rattle.gb_ask_command.specs.declared.words.Mode.{Mode}
 use Rattle.gb_ask_command.proofs.Treating.{Shown, TextDone, text_done, text_fails}

@@ -3,7 +3,7 @@ use Rattle.std.specs.Prelude.{MatchResult}
 use Rattle.gb_build.specs.Scripts.{FolderSays}
 use Rattle.gb_plan.specs.Task.{Text}
 use Rattle.gb_registry.specs.Tables.{tables_of}
-use Rattle.gb_store.specs.Faults.{IsOfMachine}
+use Rattle.gb_folder.specs.Faults.{IsOfMachine}
 use Rattle.gb_ask_command.proofs.Replying.{where_known}
 use Rattle.gb_ask_command.proofs.scripts.read_asked.Goals as goal
 

@@ -4,7 +4,7 @@ use Rattle.std.specs.List.{AllZip}
 use Rattle.gb_plan.proofs.Tests.{not_true}
 use Rattle.gb_plan.specs.Task.{Path}
 use Rattle.gb_records.specs.Said.{IsReadAt}
-use Rattle.gb_store.specs.Faults.{IsOfMachine}
+use Rattle.gb_folder.specs.Faults.{IsOfMachine}
 use Rattle.gb_build.specs.Refusing.{IsUnread}
 use Rattle.gb_build.proofs.Read.{all_read, unread}
 use Rattle.gb_records.specs.Answered.{WasAnswered}

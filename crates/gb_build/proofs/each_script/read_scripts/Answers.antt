@@ -2,7 +2,7 @@ use Rattle.std.proofs.Common.{Err, Ok, subst, ◌∙◌, inl, inr}
 use Rattle.gb_core.specs.Place.{is_place}
 use Rattle.gb_folder.specs.Files.{Contents}
 use Rattle.gb_script.specs.Script.{Says}
-use Rattle.gb_store.proofs.Machine.{machine_before}
+use Rattle.gb_folder.proofs.Machine.{machine_before}
 use Rattle.gb_build.proofs.RowLemmas.{first_fault, long_more, parsed_more, passes_at, text_more}
 use Rattle.gb_build.proofs.SaidLemmas.{handed}
 use Rattle.gb_build.specs.Scripts.{script_place}

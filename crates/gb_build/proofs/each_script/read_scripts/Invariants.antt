@@ -1,4 +1,4 @@
-use Rattle.std.proofs.Common.{◌≡◌, ◌≤◌, length, take}
+use Rattle.std.proofs.Common.{◌≡◌, length, take}
 use Rattle.gb_folder.specs.Calls.{Requests, no_change}
 use Rattle.gb_build.specs.Found.{WereParsed}
 use Rattle.gb_build.specs.Scripts.{AreTexts, script_places}

@@ -1,7 +1,7 @@
 use Rattle.std.proofs.Common.{◌<◌, ℕ, List, Some, length, subst, Err, ap, sym, ◌∙◌, inl, inr, refl}
 use Rattle.gb_folder.specs.Limits.{max_file}
 use Rattle.gb_folder.specs.Files.{IsTorn}
-use Rattle.gb_store.specs.Faults.{reported_at}
+use Rattle.gb_folder.specs.Faults.{reported_at}
 use Rattle.gb_build.proofs.Editing.{put_failed}
 use Rattle.gb_folder.specs.Calls.{Writes}
 use Rattle.gb_folder.specs.Device.{IsCalled}

@@ -1,5 +1,5 @@
 use Rattle.std.proofs.Common.{Err, ap, sym, ◌∙◌, inl, inr, refl}
-use Rattle.gb_store.specs.Faults.{reported_at}
+use Rattle.gb_folder.specs.Faults.{reported_at}
 use Rattle.gb_build.proofs.Editing.{remove_failed}
 use Rattle.gb_build.proofs.edits.remove.Goals as goal
 

@@ -1,7 +1,5 @@
 use Rattle.std.proofs.Common.{◌≡◌, ◌≤◌, ◌++◌, List, length, map, take, vec_len}
-use Rattle.std.specs.List.{AllZip}
 use Rattle.std.specs.Vec.{vec_capacity}
-use Rattle.gb_folder.specs.Files.{SameTearing}
 use Rattle.gb_build.specs.Registering.{registers_in}
 use Rattle.gb_meaning.specs.declared.events.Answer.{Answer}
 use Rattle.gb_meaning.specs.declared.events.Event.{Event}
@@ -11,7 +9,6 @@ use Rattle.gb_meaning.specs.Kinds.{Kinds}
 use Rattle.gb_records.specs.Assumed.{IsAssumed}
 use Rattle.gb_registry.specs.Tables.{tables_of}
 use Rattle.gb_build.specs.EventAsked.{EventsRequest}
-use Rattle.gb_build.specs.Answers.{AnswerIsOutlined}
 use Rattle.gb_build.proofs.Editing.{shows}
 use Rattle.gb_records.specs.Setting.{setting_by}
 use Rattle.gb_build.proofs.Running.{RunsFrom}
@@ -25,13 +22,9 @@ invariant-loop-event g l =
       room : length l.events ≤ vec_capacity l.answers;
       long : vec_len l.answers ≡ l.event-index;
       each : length l.answers.items ≡ l.event-index;
-      count : F.device.failures l.fn.folder ≤ F.device.failures l.folder;
-      tearing : SameTearing (F.device.may_leave l.fn.folder) (F.device.may_leave l.folder);
       requests : EventsRequest F.device (tables_of g.T.Transforms.meanings g.A.Actions.meanings l.tables) (take l.event-index l.events) l.answers.items l.fn.folder l.folder;
       device : HasFailed (times_blamed_in_all l.answers.items) (F.device.failures l.fn.folder) (F.device.failures l.folder);
       heard : HaveHeardAll l.answers.items (map g.L.TaskListener.ear l.fn.listeners.items) (map g.L.TaskListener.ear l.listeners.items);
-      outlined : AllZip AnswerIsOutlined (take l.event-index l.events) l.answers.items;
-      back : F.device.faithful l.folder → F.device.faithful l.fn.folder;
       elsewhere : F.device.faithful l.folder → AllKeepElsewhere (registers_in tables) (take l.event-index l.events) l.answers.items (F.device.contents l.fn.folder) (F.device.contents l.folder);
       -- with any run that continues from here, these events are one run
       holds : F.device.faithful l.folder → (kinds : Kinds) → IsAssumed g.A.Actions.meanings l.tables.actions kinds (F.device.may_leave l.fn.folder)

@@ -7,14 +7,13 @@ use Rattle.gb_meaning.specs.declared.events.Event.TheVariants as events
 use Rattle.gb_meaning.specs.Edits.{Shown}
 use Rattle.gb_meaning.specs.Headline.{EventKeeps, HasFailed, times_blamed}
 use Rattle.gb_registry.specs.Tables.{tables_of}
-use Rattle.gb_build.specs.Answers.{AnswerIsOutlined, edit_answer}
+use Rattle.gb_build.specs.Answers.{edit_answer}
 use Rattle.gb_build.proofs.Blaming.{edit_blames}
 use Rattle.gb_build.proofs.Editing.{shows}
 use Rattle.gb_build.proofs.Kept.{put_keeps, remove_keeps}
 use Rattle.gb_build.proofs.Losing.{loss_leads}
 use Rattle.gb_build.proofs.Outside.{put_leads, remove_leads}
 use Rattle.gb_records.specs.Setting.{setting_by}
-use Rattle.gb_build.proofs.Running.{edit_outlined, report_outlined}
 use Rattle.gb_build.specs.EventAsked.{EventRequests}
 use Rattle.gb_build.proofs.EventAsked.{invocation_requests}
 use Rattle.gb_build.proofs.events.take.Goals as goal
@@ -90,24 +89,6 @@ returns-in-Lost-clause-device g c =
     subst (λ (answer : Answer). HasFailed (times_blamed answer) (F.device.failures c.args.folder.now) (F.device.failures c.lose.new.folder)) (sym c.edited-in-Lost.ensures)
     (edit_blames c.lose.result (F.device.failures c.args.folder.now) (F.device.failures c.lose.new.folder) c.lose.ensures.requests.count c.lose.ensures.blame)
 
-pub returns-in-Put-clause-outlined : goal.returns-in-Put-clause-outlined
-returns-in-Put-clause-outlined g c =
-    subst (λ (answer : Answer). AnswerIsOutlined c.args.event.now answer) (sym c.edited.ensures) (edit_outlined c.args.event.now c.put.result)
-
-pub returns-in-Remove-clause-outlined : goal.returns-in-Remove-clause-outlined
-returns-in-Remove-clause-outlined g c =
-    subst (λ (answer : Answer). AnswerIsOutlined c.args.event.now answer) (sym c.edited-in-Remove.ensures) (edit_outlined c.args.event.now c.remove.result)
-
-pub returns-in-Lost-clause-outlined : goal.returns-in-Lost-clause-outlined
-returns-in-Lost-clause-outlined g c =
-    subst (λ (answer : Answer). AnswerIsOutlined c.args.event.now answer) (sym c.edited-in-Lost.ensures) (edit_outlined c.args.event.now c.lose.result)
-
-pub returns-in-Invoke-clause-outlined : goal.returns-in-Invoke-clause-outlined
-returns-in-Invoke-clause-outlined g c =
-    subst (λ (event : Event). AnswerIsOutlined event c.built.result) (sym c.in-Invoke.is)
-    (subst (λ (answer : Answer). AnswerIsOutlined (events.Invoke c.in-Invoke.invocation) answer) (sym c.built.ensures)
-    (report_outlined c.in-Invoke.invocation c.invoke.result c.invoke.ensures.does.outlined))
-
 pub returns-in-Put-clause-requests : goal.returns-in-Put-clause-requests
 returns-in-Put-clause-requests g c =
     let F = g.F.Folder in
@@ -134,12 +115,6 @@ returns-in-Invoke-clause-requests g c =
     (invocation_requests g.F.Folder.device (tables_of g.T.Transforms.meanings g.A.Actions.meanings c.args.tables.now) c.in-Invoke.invocation c.invoke.result c.args.folder.now c.invoke.new.folder c.invoke.ensures.does.requests))
 
 -- ---- An invocation
-
-pub returns-in-Invoke-clause-count : goal.returns-in-Invoke-clause-count
-returns-in-Invoke-clause-count g c = c.invoke.ensures.does.count
-
-pub returns-in-Invoke-clause-tearing : goal.returns-in-Invoke-clause-tearing
-returns-in-Invoke-clause-tearing g c = c.invoke.ensures.does.tearing
 
 pub returns-in-Invoke-clause-device : goal.returns-in-Invoke-clause-device
 returns-in-Invoke-clause-device g c =

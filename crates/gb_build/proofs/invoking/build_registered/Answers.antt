@@ -7,10 +7,9 @@ use Rattle.gb_meaning.specs.Edits.{Shown}
 use Rattle.gb_build.specs.Leading.{IsTransition}
 use Rattle.gb_build.specs.Refusing.{IsNotBegun}
 use Rattle.gb_build.proofs.Refusing.{refused_at}
-use Rattle.gb_meaning.specs.Outline.{IsOutlined, IsOutlinedBy}
 use Rattle.gb_report.specs.declared.fault.Fault.{Fault}
 use Rattle.gb_report.specs.declared.fault.Fault.TheVariants as faults
-use Rattle.gb_build.proofs.Keeping.{each_fault, each_report, of_fault}
+use Rattle.gb_build.proofs.Keeping.{each_fault, of_fault}
 use Rattle.gb_meaning.specs.declared.events.Event.TheVariants as events
 use Rattle.gb_meaning.specs.Headline.{KeepsElsewhere, answer_of}
 use Rattle.gb_plan.specs.Graph.{IsRegistry, Registry}
@@ -95,13 +94,6 @@ returns-in_err-tasks-clause-not_begun g c =
     let p = err_from_is_err_and c.from_residual.result c.from_residual.ensures.1 in
     of_fault (IsNotBegun (registry_said tables c.args.configured.now.registry) c.args.invocation.now (F.device.failures c.args.folder.now) (F.device.failures c.args.folder.now)) c.from_residual.result p.0 p.1
     (inl (inl p.2))
-
-pub returns-clause-outlined : goal.returns-clause-outlined
-returns-clause-outlined g c =
-    let declared = registry_in g.T.Transforms.meanings g.A.Actions.meanings c.in_ok-tasks.tasks.workspace in
-    each_report (IsOutlinedBy declared c.args.invocation.now) (IsOutlined c.args.invocation.now)
-    (λ report is. record { registry = declared; is_registry = c.in_ok-tasks.tasks.ordered; outlined = is })
-    c.build_requested-answered.result c.build_requested-answered.ensures.outlined
 
 pub returns-clause-not_begun : goal.returns-clause-not_begun
 returns-clause-not_begun g c =

@@ -3,7 +3,6 @@ use Rattle.std.specs.Prelude.{OnOk}
 use Rattle.std.proofs.lemmas.Result.{err_from_is_err_and}
 use Rattle.gb_folder.specs.Files.{Contents, is_own}
 use Rattle.gb_folder.proofs.Asked.{requests_nothing}
-use Rattle.gb_folder.proofs.Changes.{SameTearing-chain}
 use Rattle.gb_declare.specs.Registered.{registry_said}
 use Rattle.gb_meaning.specs.Edits.{Shown}
 use Rattle.gb_meaning.specs.Events.{IsNotBuilt, is_read_first}
@@ -24,7 +23,7 @@ use Rattle.gb_build.specs.InvocationAsked.{InvocationRequests}
 use Rattle.gb_build.specs.RequestAsked.{BuildRequests}
 use Rattle.gb_build.specs.Registering.{registers_in}
 use Rattle.gb_build.proofs.Blamed.{failed_since, memory_blames_none, reading_fails}
-use Rattle.gb_build.proofs.InvocationAsked.{declared_requests, invocation_calls}
+use Rattle.gb_build.proofs.InvocationAsked.{build_keeps, declared_requests, invocation_calls}
 use Rattle.gb_build.proofs.Keeping.{begun_before, each_fault, invoked_keeps}
 use Rattle.gb_build.proofs.Passing.{always, shows, since_read}
 use Rattle.gb_build.proofs.Promised.{promised, refusal_does, refusal_promised}
@@ -104,8 +103,6 @@ returns-clause-does g c =
     record {
       requests = requests;
       calls = invocation_calls F.device tables c.args.invocation.now answered.result old new requests;
-      dry_run = c.build_registered-answered.ensures.dry_run;
-      outlined = c.build_registered-answered.ensures.outlined;
       places =
           each_fault (λ (fault : Fault). (place : List ℕ) → fault ≡ faults.Device place → IsTrue (is_own place && not c.args.invocation.now.options.dry_run))
           (λ (fault : Fault). (place : List ℕ) → fault ≡ faults.Device place → IsTrue (is_read_first c.args.invocation.now.options place))
@@ -115,19 +112,18 @@ returns-clause-does g c =
           let F = g.F.Folder in
           failed_since (times_blamed (answer_of c.build_registered-answered.result)) (F.device.failures c.args.folder.now) (F.device.failures c.read_registry.new.folder) (F.device.failures c.build_registered-answered.new.folder)
           c.read_registry.ensures.reads.requests.count c.build_registered-answered.ensures.device;
-      count = omega (arith, c.read_registry.ensures.reads.requests.count, c.build_registered-answered.ensures.count);
-      back = λ known. c.read_registry.ensures.reads.requests.back (c.build_registered-answered.ensures.back known);
-      tearing = SameTearing-chain (g.F.Folder.device.may_leave c.args.folder.now) (g.F.Folder.device.may_leave c.read_registry.new.folder) (g.F.Folder.device.may_leave c.build_registered-answered.new.folder)
-          c.read_registry.ensures.reads.requests.tearing c.build_registered-answered.ensures.tearing;
     }
 
 pub returns-clause-promise : goal.returns-clause-promise
 returns-clause-promise g c = λ faithful.
     let F = g.F.Folder in
     let answered = c.build_registered-answered in
+    let kept = build_keeps F.device g.A.Actions.meanings c.in_ok-configured.configured.tables.now.actions
+    (registry_said (tables_of g.T.Transforms.meanings g.A.Actions.meanings c.in_ok-configured.configured.tables.now) c.in_ok-configured.configured.registry) c.args.invocation.now
+    answered.result c.read_registry.new.folder answered.new.folder answered.ensures.requests in
     promised (tables_of g.T.Transforms.meanings g.A.Actions.meanings c.args.tables.now) (F.device.may_leave c.args.folder.now) c.args.invocation.now
     (shows (F.device.contents c.args.folder.now) (F.device.failures c.args.folder.now)) answered.result (shows (F.device.contents answered.new.folder) (F.device.failures answered.new.folder))
-    (omega (arith, c.read_registry.ensures.reads.requests.count, answered.ensures.count))
+    (omega (arith, c.read_registry.ensures.reads.requests.count, kept.count))
     (
     let F = g.F.Folder in
     let tables = tables_of g.T.Transforms.meanings g.A.Actions.meanings c.args.tables.now in
@@ -137,27 +133,27 @@ returns-clause-promise g c = λ faithful.
     let after = F.device.failures c.build_registered-answered.new.folder in
     each_fault (IsNotBegun (registry_said tables source) c.args.invocation.now later after) (λ (fault : Fault). IsNotBuilt (registers_in tables) old c.args.invocation.now fault after)
     (λ fault why. not_built (registers_in tables) (registry_said tables source) old c.args.invocation.now fault after
-    (registered tables old.contents c.into_vec-given.result.items c.args.invocation.now.properties (c.into_vec-given.ensures ∙ c.in_ok-copied.ensures) source (c.in_ok-configured.ensures.said (c.build_registered-answered.ensures.back faithful)))
-    (begun_before (registry_said tables source) c.args.invocation.now old.failures later after c.read_registry.ensures.reads.requests.count c.build_registered-answered.ensures.count fault why))
+    (registered tables old.contents c.into_vec-given.result.items c.args.invocation.now.properties (c.into_vec-given.ensures ∙ c.in_ok-copied.ensures) source (c.in_ok-configured.ensures.said (kept.back faithful)))
+    (begun_before (registry_said tables source) c.args.invocation.now old.failures later after c.read_registry.ensures.reads.requests.count kept.count fault why))
     c.build_registered-answered.result
     (subst (λ (given : handed.Tables _ _ _ _ _ _ _). IfErr c.build_registered-answered.result
     (IsNotBegun (registry_said (tables_of g.T.Transforms.meanings g.A.Actions.meanings given) source) c.args.invocation.now later after))
     c.in_ok-configured.ensures.tables c.build_registered-answered.ensures.not_begun))
-    (subst (λ (contents : Contents). OnErr answered.result (F.device.contents answered.new.folder ≡ contents)) (c.read_registry.ensures.reads.same (c.build_registered-answered.ensures.back faithful)) (answered.ensures.refused faithful))
+    (subst (λ (contents : Contents). OnErr answered.result (F.device.contents answered.new.folder ≡ contents)) (c.read_registry.ensures.reads.same (kept.back faithful)) (answered.ensures.refused faithful))
     (λ dry.
-    ap g.F.Folder.device.contents (c.build_registered-answered.ensures.dry dry) ∙ c.read_registry.ensures.reads.same (c.build_registered-answered.ensures.back faithful))
+    ap g.F.Folder.device.contents (c.build_registered-answered.ensures.dry dry) ∙ c.read_registry.ensures.reads.same (kept.back faithful))
     (
     let F = g.F.Folder in
     let tables = tables_of g.T.Transforms.meanings g.A.Actions.meanings c.args.tables.now in
     let source = c.in_ok-configured.configured.registry in
     let before = F.device.contents c.args.folder.now in
     invoked_keeps (registers_in tables) c.args.invocation.now c.build_registered-answered.result before (F.device.contents c.build_registered-answered.new.folder) (registry_said tables source)
-    (registered tables before c.into_vec-given.result.items c.args.invocation.now.properties (c.into_vec-given.ensures ∙ c.in_ok-copied.ensures) source (c.in_ok-configured.ensures.said (c.build_registered-answered.ensures.back faithful)))
-    (subst (λ (contents : Contents). KeepsElsewhere (registry_said tables source) contents (F.device.contents c.build_registered-answered.new.folder)) (c.read_registry.ensures.reads.same (c.build_registered-answered.ensures.back faithful))
+    (registered tables before c.into_vec-given.result.items c.args.invocation.now.properties (c.into_vec-given.ensures ∙ c.in_ok-copied.ensures) source (c.in_ok-configured.ensures.said (kept.back faithful)))
+    (subst (λ (contents : Contents). KeepsElsewhere (registry_said tables source) contents (F.device.contents c.build_registered-answered.new.folder)) (c.read_registry.ensures.reads.same (kept.back faithful))
     (subst (λ (given : handed.Tables _ _ _ _ _ _ _). KeepsElsewhere (registry_said (tables_of g.T.Transforms.meanings g.A.Actions.meanings given) source)
     (F.device.contents c.read_registry.new.folder) (F.device.contents c.build_registered-answered.new.folder))
     c.in_ok-configured.ensures.tables (c.build_registered-answered.ensures.keeps faithful)))
-    (subst (λ (contents : Contents). OnErr c.build_registered-answered.result (F.device.contents c.build_registered-answered.new.folder ≡ contents)) (c.read_registry.ensures.reads.same (c.build_registered-answered.ensures.back faithful))
+    (subst (λ (contents : Contents). OnErr c.build_registered-answered.result (F.device.contents c.build_registered-answered.new.folder ≡ contents)) (c.read_registry.ensures.reads.same (kept.back faithful))
     (c.build_registered-answered.ensures.refused faithful)))
     (λ kinds assumed.
     let F = g.F.Folder in
@@ -171,10 +167,10 @@ returns-clause-promise g c = λ faithful.
     let new : Shown = shows (F.device.contents c.build_registered-answered.new.folder) (F.device.failures c.build_registered-answered.new.folder) in
     since_read kinds (registry_said tables source) (registers_in tables) first second c.read_registry.ensures.reads.requests.tearing c.args.invocation.now before (F.device.failures c.args.folder.now) later
     c.read_registry.ensures.reads.requests.count
-    (registered tables before c.into_vec-given.result.items c.args.invocation.now.properties (c.into_vec-given.ensures ∙ c.in_ok-copied.ensures) source (c.in_ok-configured.ensures.said (c.build_registered-answered.ensures.back faithful)))
-    c.build_registered-answered.result new c.build_registered-answered.ensures.count
+    (registered tables before c.into_vec-given.result.items c.args.invocation.now.properties (c.into_vec-given.ensures ∙ c.in_ok-copied.ensures) source (c.in_ok-configured.ensures.said (kept.back faithful)))
+    c.build_registered-answered.result new kept.count
     (subst (λ (contents : Contents). IsTransition (setting_by kinds (always (registry_said tables source)) second) (shows contents later) (events.Invoke c.args.invocation.now) (answer_of c.build_registered-answered.result) new)
-    (c.read_registry.ensures.reads.same (c.build_registered-answered.ensures.back faithful))
+    (c.read_registry.ensures.reads.same (kept.back faithful))
     (subst (λ (given : handed.Tables _ _ _ _ _ _ _). IsTransition (setting_by kinds (always (registry_said (tables_of g.T.Transforms.meanings g.A.Actions.meanings given) source)) second)
     (shows (F.device.contents c.read_registry.new.folder) later) (events.Invoke c.args.invocation.now) (answer_of c.build_registered-answered.result) new)
     same

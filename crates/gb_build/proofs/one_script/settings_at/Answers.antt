@@ -1,6 +1,7 @@
 use Rattle.std.proofs.Common.{ℕ, List, Err, Ok, Some, ap, subst, sym, ◌∙◌}
 use Rattle.gb_script.specs.Script.{SaysAsSettings}
 use Rattle.gb_folder.specs.Calls.{Reads}
+use Rattle.gb_folder.specs.Device.{IsCalled}
 use Rattle.gb_build.proofs.Parsed.{parsed_here}
 use Rattle.gb_build.proofs.FileLemmas.{reported_there, unread_there}
 use Rattle.gb_build.proofs.one_script.settings_at.Goals as goal
@@ -22,4 +23,4 @@ returns-in-Ok-clause-parsed g c =
     let old = c.args.folder.now in
     let new = c.read.new.folder in
     parsed_here F.device SaysAsSettings old new c.args.place _ c.as_slice.result.now _ c.settings_in.result
-    (subst (λ (bytes : List ℕ). F.device.allowed old (Reads c.args.place _ (Ok bytes)) new) (sym c.as_slice.ensures.value) c.in-Ok.ensures.called.allowed) c.settings_in.ensures
+    (subst (λ (bytes : List ℕ). IsCalled F.device old (Reads c.args.place _ (Ok bytes)) new) (sym c.as_slice.ensures.value) c.in-Ok.ensures.called) c.settings_in.ensures

@@ -9,7 +9,7 @@ use Rattle.gb_registry.specs.Projects.{Path, folder_of, projects_of, settings_fa
 use Rattle.gb_registry.specs.Source.{source_with}
 use Rattle.gb_registry.specs.Configure.{configure_faults}
 use Rattle.gb_registry.specs.Tables.{tables_of}
-use Rattle.gb_store.proofs.Machine.{handed_on, machine_before}
+use Rattle.gb_folder.proofs.Machine.{handed_on, machine_before}
 use Rattle.gb_build.proofs.Blameless.{configure_blameless, none_blamed}
 use Rattle.gb_build.proofs.BlamelessScripts.{settings_blameless}
 use Rattle.gb_build.proofs.PlaceLemmas.{places_good}

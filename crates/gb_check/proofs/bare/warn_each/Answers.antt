@@ -3,8 +3,8 @@ use Rattle.gb_folder.specs.Files.{Contents}
 use Rattle.gb_folder.proofs.Asked.{requests_then}
 use Rattle.gb_check.specs.Warnings.{bare_root}
 use Rattle.gb_check.specs.declared.findings.Finding.{Finding}
-use Rattle.gb_store.proofs.Machine.{machine_before}
-use Rattle.gb_store.specs.Faults.{IsOfMachine}
+use Rattle.gb_folder.proofs.Machine.{machine_before}
+use Rattle.gb_folder.specs.Faults.{IsOfMachine}
 use Rattle.gb_check.proofs.Refused.{handed}
 use Rattle.gb_check.proofs.Rows.{one_more}
 use Rattle.gb_check.proofs.bare.warn_each.Goals as goal

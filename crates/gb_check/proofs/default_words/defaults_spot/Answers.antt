@@ -5,7 +5,7 @@ use Rattle.gb_registry.specs.Projects.{Path}
 use Rattle.gb_registry.specs.SoFar.{scripts_in}
 use Rattle.gb_registry.specs.declared.checking.Scripted.{Scripted}
 use Rattle.gb_script.specs.declared.script.Statement.{Statement}
-use Rattle.gb_store.specs.Faults.{IsOfMachine}
+use Rattle.gb_folder.specs.Faults.{IsOfMachine}
 use Rattle.gb_check.specs.DefaultWords.{defaults_line, is_root}
 use Rattle.gb_check.specs.Marks.{Lines}
 use Rattle.gb_check.specs.Sites.{AreLinesAt, IsUnread, script_of_project}

@@ -4,8 +4,8 @@ use Rattle.gb_plan.specs.Graph.{Registry}
 use Rattle.gb_registry.specs.SoFar.{scripts_in}
 use Rattle.gb_registry.specs.Tables.{tables_of}
 use Rattle.gb_report.specs.declared.fault.Fault.{Fault}
-use Rattle.gb_store.proofs.Machine.{machine_before}
-use Rattle.gb_store.specs.Faults.{IsOfMachine}
+use Rattle.gb_folder.proofs.Machine.{machine_before}
+use Rattle.gb_folder.specs.Faults.{IsOfMachine}
 use Rattle.gb_check.specs.All.{AreFaults}
 use Rattle.gb_check.specs.Sites.{IsUnread}
 use Rattle.gb_check.specs.Warnings.{AreWarnings}

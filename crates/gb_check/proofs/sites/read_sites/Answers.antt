@@ -6,7 +6,7 @@ use Rattle.gb_registry.specs.SoFar.{scripts_in}
 use Rattle.gb_registry.specs.Tables.{tables_of}
 use Rattle.gb_registry.specs.declared.checking.Scripted.{Scripted}
 use Rattle.gb_report.specs.declared.fault.Fault.{Fault}
-use Rattle.gb_store.specs.Faults.{IsOfMachine}
+use Rattle.gb_folder.specs.Faults.{IsOfMachine}
 use Rattle.gb_check.specs.Sites.{AreLinesAt, AreSites, HasTextFault, IsUnread, script_of_project, sites_of}
 use Rattle.gb_check.specs.Marks.{marks_of, script_scope}
 use Rattle.gb_check.specs.declared.clause_lines.ClauseMark.{ClauseMark}

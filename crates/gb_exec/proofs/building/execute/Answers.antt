@@ -9,9 +9,7 @@ use Rattle.gb_printer.specs.Printing.{Prints}
 use Rattle.gb_printer.proofs.Printed.{prints_nothing}
 use Rattle.gb_report.specs.Report.{task_text}
 use Rattle.gb_report.specs.declared.report.TaskReport.{TaskReport}
-use Rattle.gb_store.specs.Changes.{ChangesOnly}
 use Rattle.gb_task.specs.Executing.{setting_with}
-use Rattle.gb_exec.specs.Building.{is_of_executions}
 use Rattle.gb_exec.specs.Built.{HasBuilt}
 use Rattle.gb_meaning.specs.Headline.{HasFailed}
 use Rattle.gb_exec.specs.Failing.{times_blamed}
@@ -85,12 +83,6 @@ returns-clause-printed g c =
     (subst (λ (rs : List TaskReport). Prints P.contents P.whole (flat_map task_text rs) start end) (sym c.with_reports-2.ensures.tasks)
     c.execute_tasks-all_heard.ensures.printed)
 
-pub returns-clause-changes : goal.returns-clause-changes
-returns-clause-changes g c = λ faithful.
-    let F = g.F.Folder in
-    subst (λ (ps : List Planned). ChangesOnly (is_of_executions ps) (F.device.contents c.args.folder.now) (F.device.contents c.execute_tasks-all_heard.new.folder)) c.as_slice-tasks.ensures
-    (c.execute_tasks-all_heard.ensures.changes faithful)
-
 pub returns-then-options-clause-requests : goal.returns-then-options-clause-requests
 returns-then-options-clause-requests g c =
     let F = g.F.Folder in
@@ -106,18 +98,10 @@ returns-clause-requests g c =
     (subst (λ (ps : List Planned). ExecutionsRequest F.device g.A.Actions.meanings c.args.table.now c.args.options ps c.args.records.now c.execute_tasks-all_heard.new.reports.items start start c.execute_tasks-all_heard.new.folder)
     c.as_slice-tasks.ensures c.execute_tasks-all_heard.ensures.requests)
 
-pub returns-clause-count : goal.returns-clause-count
-returns-clause-count g c =
+pub returns-clause-changes : goal.returns-clause-changes
+returns-clause-changes g c =
     let F = g.F.Folder in
     let start = c.args.folder.now in
-    (executions_places F.device g.A.Actions.meanings c.args.table.now c.args.options c.args.plan.now c.args.records.now c.execute_tasks-all_heard.new.reports.items start start c.execute_tasks-all_heard.new.folder
+    executions_places F.device g.A.Actions.meanings c.args.table.now c.args.options c.args.plan.now c.args.records.now c.execute_tasks-all_heard.new.reports.items start start c.execute_tasks-all_heard.new.folder
     (subst (λ (ps : List Planned). ExecutionsRequest F.device g.A.Actions.meanings c.args.table.now c.args.options ps c.args.records.now c.execute_tasks-all_heard.new.reports.items start start c.execute_tasks-all_heard.new.folder)
-    c.as_slice-tasks.ensures c.execute_tasks-all_heard.ensures.requests)).count
-
-pub returns-clause-tearing : goal.returns-clause-tearing
-returns-clause-tearing g c =
-    let F = g.F.Folder in
-    let start = c.args.folder.now in
-    (executions_places F.device g.A.Actions.meanings c.args.table.now c.args.options c.args.plan.now c.args.records.now c.execute_tasks-all_heard.new.reports.items start start c.execute_tasks-all_heard.new.folder
-    (subst (λ (ps : List Planned). ExecutionsRequest F.device g.A.Actions.meanings c.args.table.now c.args.options ps c.args.records.now c.execute_tasks-all_heard.new.reports.items start start c.execute_tasks-all_heard.new.folder)
-    c.as_slice-tasks.ensures c.execute_tasks-all_heard.ensures.requests)).tearing
+    c.as_slice-tasks.ensures c.execute_tasks-all_heard.ensures.requests)

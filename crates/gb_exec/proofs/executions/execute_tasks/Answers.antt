@@ -26,13 +26,10 @@ use Rattle.gb_exec.specs.Plans.{AreEndings, AreOfPlan}
 use Rattle.gb_exec.specs.Starts.{Progress, ending_in, ending_of}
 use Rattle.gb_exec.specs.declared.may_start.Ending.{Ending}
 use Rattle.gb_exec.specs.declared.may_start.Ending.TheVariants.{ToCome}
-use Rattle.gb_store.specs.Changes.{ChangesOnly}
-use Rattle.gb_store.proofs.Machine.{changes_none}
+use Rattle.gb_folder.proofs.Elsewhere.{changed_there}
 use Rattle.gb_task.proofs.Parts.{differs_outside}
 use Rattle.gb_task.proofs.Recorded.{assumed_later}
-use Rattle.gb_tree.proofs.Remembering.{none_seen_in}
 use Rattle.gb_exec.specs.Asking.{ExecutionsRequest}
-use Rattle.gb_exec.specs.Building.{is_of_executions}
 use Rattle.gb_task.specs.Buildable.{IsBuildable}
 use Rattle.gb_exec.proofs.Asking.{AreSoFar, executions_places, executions_until, more_so_far, none_so_far}
 use Rattle.gb_task.proofs.ByOutcome.{execution_places}
@@ -47,7 +44,7 @@ use Rattle.gb_exec.proofs.Outlining.{outlines_more}
 use Rattle.gb_exec.proofs.Printing.{parts_more}
 use Rattle.gb_exec.proofs.Shut.{HasOwnPlaces}
 use Rattle.gb_exec.proofs.Underway.{IsUnderway, begun, built, goes_on, outcome_in}
-use Rattle.gb_exec.proofs.Walking.{at_index, changes_more, drop_at, each_at, left_less, next_path, once_after, placed_where, take_at, whole_at, zip_more}
+use Rattle.gb_exec.proofs.Walking.{at_index, drop_at, each_at, left_less, next_path, once_after, placed_where, take_at, whole_at, zip_more}
 use Rattle.gb_exec.proofs.executions.execute_tasks.Goals as goal
 use Rattle.gb_exec.proofs.executions.execute_tasks.Goals.{then-all_heard, else-all_heard}
 use Rattle.gb_history.proofs.Lists.{AllByRecursion-push}
@@ -90,10 +87,7 @@ loop-path-init g c =
           (prints_nothing P.contents P.whole c.args.printer.now);
       requests = subst (λ (rs : List TaskReport). AreSoFar F.device g.A.Actions.meanings c.args.build.now.table.now c.args.build.now.options [] [] rs start start c.new-seen.result) (sym none)
           (none_so_far F.device g.A.Actions.meanings c.args.build.now.table.now c.args.build.now.options start c.new-seen.result c.new-seen.ensures);
-      back = λ known. known;
-      seen_in = λ faithful. none_seen_in (F.device.contents start).files c.new-seen.result c.new-seen.ensures;
       device = subst (λ (rs : List TaskReport). HasFailed (times_blamed rs) (F.device.failures start) (F.device.failures start)) (sym none) (inl (omega arith));
-      changes = λ faithful. changes_none (is_of_executions []) (F.device.contents start) (F.device.contents start) refl;
       build = λ faithful kinds registry_of remembered clear observed assumed worth.
           let old : State = record { contents = F.device.contents start; remembered = remembered; failures = F.device.failures start } in
           subst (λ (rs : List TaskReport). IsUnderway kinds registry_of (F.device.may_leave start) clear observed c.args.build.now.options tasks old [] tasks rs
@@ -133,8 +127,9 @@ loop-path-preserved g c =
     let way = executions_places F.device g.A.Actions.meanings build.table.now build.options (take i tasks) (take i build.records.now) reports start start now
     (executions_until F.device g.A.Actions.meanings build.table.now build.options (take i tasks) (take i build.records.now) reports start start far.last now far.executions) in
     let taken = c.execute_one-taken.ensures.requests planned is far.last far.none far.were in
-    let count = (execution_places F.device g.A.Actions.meanings build.table.now build.options planned.task (slice_index_or build.records.now i None) report.lines far.last now next
-    report.outcome taken).count in
+    let step = execution_places F.device g.A.Actions.meanings build.table.now build.options planned.task (slice_index_or build.records.now i None) report.lines far.last now next
+    report.outcome taken in
+    let count = step.count in
     let read = take_more build.records.now i None (omega (arith, c.requires.each, less)) in
     let can = each_at (λ (p : Planned). IsBuildable g.A.Actions.meanings build.table.now p.task) tasks i planned is c.requires.can.tasks in
     let is_path : IsTrue (is_task_path planned.task.path) = subst (λ (p : Path). IsTrue (is_task_path p)) along.0 c.as_str-path.ensures.path in
@@ -184,18 +179,13 @@ loop-path-preserved g c =
           (subst (λ (rs : List TaskReport). AreSoFar F.device g.A.Actions.meanings build.table.now build.options (take i tasks ++ planned ∷ []) (take i build.records.now ++ slice_index_or build.records.now i None ∷ []) rs start next remembered_now) (sym items)
           (more_so_far F.device g.A.Actions.meanings build.table.now build.options (take i tasks) (take i build.records.now) reports start now c.loop-path.seen far planned (slice_index_or build.records.now i None) report next remembered_now
           taken (c.execute_one-taken.ensures.seen far.last far.none far.were))));
-      back = λ known. inv.back (c.execute_one-taken.ensures.back known);
-      seen_in = λ faithful. c.execute_one-taken.ensures.seen_in faithful (inv.seen_in (c.execute_one-taken.ensures.back faithful));
       device = subst (λ (rs : List TaskReport). HasFailed (times_blamed rs) (F.device.failures start) (F.device.failures next)) (sym items)
           (failed_more reports report (F.device.failures start) (F.device.failures now) (F.device.failures next) inv.device count c.execute_one-taken.ensures.blame);
-      changes = λ faithful.
-          subst (λ (ps : List Planned). ChangesOnly (is_of_executions ps) (F.device.contents start) (F.device.contents next)) (sym take_is)
-          (changes_more (take i tasks) planned (F.device.contents start) (F.device.contents now) (F.device.contents next) (inv.changes (c.execute_one-taken.ensures.back faithful)) (c.execute_one-taken.ensures.changes faithful planned is));
       build = λ faithful kinds registry_of remembered clear observed assumed worth.
           let old : State = record { contents = F.device.contents start; remembered = remembered; failures = F.device.failures start } in
           let u = subst (λ (ps : List Planned). IsUnderway kinds registry_of (F.device.may_leave start) clear observed build.options tasks old (take i tasks) ps reports
-          (record { contents = F.device.contents now; failures = F.device.failures now })) (drop_at tasks i planned is) (inv.build (c.execute_one-taken.ensures.back faithful) kinds registry_of remembered clear observed assumed worth) in
-          let changes = c.execute_one-taken.ensures.changes faithful planned is in
+          (record { contents = F.device.contents now; failures = F.device.failures now })) (drop_at tasks i planned is) (inv.build (step.back faithful) kinds registry_of remembered clear observed assumed worth) in
+          let changes = changed_there step faithful in
           subst (λ (ps : List Planned). IsUnderway kinds registry_of (F.device.may_leave start) clear observed build.options tasks old ps (drop (i + 1) tasks) c.push_reserved.new.reports.items
           (record { contents = F.device.contents next; failures = F.device.failures next })) (sym take_is)
           (subst (λ (rs : List TaskReport). IsUnderway kinds registry_of (F.device.may_leave start) clear observed build.options tasks old (take i tasks ++ planned ∷ []) (drop (i + 1) tasks) rs
@@ -205,13 +195,13 @@ loop-path-preserved g c =
           (g.met.F.Folder.sound next) (differs_outside planned.task (F.device.contents now).files (F.device.contents next).files changes.elsewhere) changes.special c.requires.can.sound.outputs_separate
           (F.device.may_leave now) way.tearing (once_after (take i tasks) (drop (i + 1) tasks) planned (subst (λ (ps : List Planned). no_repeats (order ps) ≡ true) (whole_at tasks i planned is) c.requires.can.once))
           (λ given still.
-          c.execute_one-taken.ensures.execution faithful (inv.seen_in (c.execute_one-taken.ensures.back faithful)) kinds registry_of u.moment planned is (assumed_later (F.device.may_leave start) (F.device.may_leave now) way.tearing assumed) u.folder u.failures still.existing
+          c.execute_one-taken.ensures.execution faithful far.last far.none far.were kinds registry_of u.moment planned is (assumed_later (F.device.may_leave start) (F.device.may_leave now) way.tearing assumed) u.folder u.failures still.existing
           (subst (λ (os : List (Path × Outcome)). AreEndings tasks os c.loop-path.starts.endings) (sym u.outcomes) inv.endings)
           (knows c.what_is_read_is_known.ensures kinds tasks build.records.now observed u.observed_now (F.device.contents start) remembered u.moment.world i planned is (worth given.0) is_path still.same.0
           (subst (λ (folder : Contents). IsFolder folder.files) (sym u.folder) (folder_where (λ place. not (is_own place)) (F.device.contents now).files (g.met.F.Folder.sound now)))
           (subst (λ (folder : Contents). IsTrue (are_placed folder.files)) (sym u.folder) (placed_where (λ place. not (is_own place)) (F.device.contents now).files (g.met.F.Folder.placed now)))
           can.not_own u.keeps given.1))
-          (inv.places, is_path, inv.changes (c.execute_one-taken.ensures.back faithful))));
+          (inv.places, is_path, changed_there way (step.back faithful))));
     }
   where
     on_true : (a b : Bool) → a ≡ true → b ≡ (a && b)

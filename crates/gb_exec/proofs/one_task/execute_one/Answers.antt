@@ -13,8 +13,7 @@ use Rattle.gb_report.specs.declared.report.Heard.TheVariants as heard
 use Rattle.gb_report.specs.declared.report.Outcome.TheVariants.{NotRun}
 use Rattle.gb_report.specs.declared.report.TaskReport.{TaskReport}
 use Rattle.gb_exec.specs.Starts.{Progress, has_executed_need}
-use Rattle.gb_store.specs.Changes.{ChangesOnly}
-use Rattle.gb_task.specs.Executing.{is_of_execution, setting_with}
+use Rattle.gb_task.specs.Executing.{setting_with}
 use Rattle.gb_exec.specs.Built.{IsExecutionOf}
 use Rattle.gb_exec.specs.Reports.{IsOf, report_with}
 use Rattle.gb_exec.proofs.Hearing.{heard_passed, heard_started, unnotified}
@@ -43,7 +42,7 @@ returns-then-not-does_start-clause-outline g c = λ moment planned is endings.
     (λ starts. not_false (sym (c.does_start.ensures.starts.1 (by_number.0 starts)) ∙ c.if-not-does_start.true))
 
 pub returns-then-not-does_start-clause-execution : goal.returns-then-not-does_start-clause-execution
-returns-then-not-does_start-clause-execution g c = λ faithful there kinds registry_of moment planned is assumed folder failures exists endings known.
+returns-then-not-does_start-clause-execution g c = λ faithful since before was kinds registry_of moment planned is assumed folder failures exists endings known.
     let F = g.F.Folder in
     let tasks = c.args.build.now.tasks.now in
     let got = slice_get-get_or tasks c.args.index c.index-build-index.result c.requires.index in
@@ -100,14 +99,6 @@ returns-clause-heard g c =
     on_false true b e = not_false e
     on_false false b e = refl
 
-pub returns-clause-changes : goal.returns-clause-changes
-returns-clause-changes g c = λ faithful planned is.
-    let F = g.F.Folder in
-    let tasks = c.args.build.now.tasks.now in
-    let got = slice_get-get_or tasks c.args.index c.index-build-index.result c.requires.index in
-    let same : slice_index_or tasks c.args.index c.index-build-index.result ≡ planned = some_same (sym got ∙ is) in
-    subst (λ (p : Planned). ChangesOnly (is_of_execution p.task) (F.device.contents c.args.folder.now) (F.device.contents c.execute_task-report.new.folder)) same (c.execute_task-report.ensures.changes faithful)
-
 pub returns-clause-outline : goal.returns-clause-outline
 returns-clause-outline g c = λ moment planned is endings.
     let build = c.args.build.now in
@@ -126,7 +117,7 @@ returns-clause-outline g c = λ moment planned is endings.
     (by_number.1 (c.does_start.ensures.starts.0 c.if-not-does_start.false)) need report.ensures.alone report.ensures.answer)
 
 pub returns-clause-execution : goal.returns-clause-execution
-returns-clause-execution g c = λ faithful there kinds registry_of moment planned is assumed folder failures exists endings known.
+returns-clause-execution g c = λ faithful since before was kinds registry_of moment planned is assumed folder failures exists endings known.
     let F = g.F.Folder in
     let build = c.args.build.now in
     let tasks = build.tasks.now in
@@ -148,7 +139,7 @@ returns-clause-execution g c = λ faithful there kinds registry_of moment planne
     (by_number.1 (c.does_start.ensures.starts.0 (not_not c.does_start.result c.if-not-does_start.false)))
     (let known_so : IsKnown kinds task.task moment.world (option_copied c.as_ref-last.result) =
     subst (IsKnown kinds task.task moment.world) (sym last) (subst (λ (p : Planned). IsKnown kinds p.task moment.world (slice_index_or build.records.now index None)) (sym same) known) in
-    c.execute_task-report.ensures.execution faithful there kinds registry_of tasks moment assumed
+    c.execute_task-report.ensures.execution faithful since before was kinds registry_of tasks moment assumed
     (record { folder = folder; failures = failures; records = exists; read = read_so kinds task.task moment.world (option_copied c.as_ref-last.result) known_so })
     need known_so))
   where

@@ -3,7 +3,7 @@ use Rattle.std.specs.List.{flat_map}
 use Rattle.std.proofs.lemmas.Result.{err_from_is_err_and, on_ok_weaker}
 use Rattle.gb_folder.specs.Files.{Contents, is_empty}
 use Rattle.gb_meaning.specs.Tree.{listing_faults}
-use Rattle.gb_store.proofs.Machine.{at_err}
+use Rattle.gb_folder.proofs.Machine.{at_err}
 use Rattle.gb_label.specs.Reading.{print_faults}
 use Rattle.gb_folder.proofs.Asked.{requests_nothing, requests_then}
 use Rattle.gb_tree.proofs.Remembering.{known_still, seen_longer}

@@ -5,7 +5,7 @@ use Rattle.gb_meaning.specs.Tree.{has_no_source, listing_faults, trees_of}
 use Rattle.gb_plan.specs.declared.task.FileProperty.{FileProperty}
 use Rattle.gb_plan.specs.declared.task.TaskDeclaration.{TaskDeclaration as Task}
 use Rattle.gb_report.specs.declared.fault.Fault.{Fault}
-use Rattle.gb_store.proofs.Machine.{at_err}
+use Rattle.gb_folder.proofs.Machine.{at_err}
 use Rattle.gb_label.specs.Reading.{Read, digests_in, prints_read}
 use Rattle.gb_label.specs.Looking.{IsHindered, lacks_source}
 use Rattle.gb_label.proofs.Cases.{by_source, first_in_prefix, hindered}

@@ -9,9 +9,8 @@ use Rattle.gb_folder.proofs.Asked.{requests_nothing, requests_then}
 use Rattle.gb_folder.specs.Files.{Contents, Files}
 use Rattle.gb_history.specs.Record.{Prints}
 use Rattle.gb_plan.specs.declared.task.FileProperty.{FileProperty}
-use Rattle.gb_store.proofs.Loops.{all_at}
-use Rattle.gb_store.proofs.Machine.{at_err, handed_on, machine_before}
-use Rattle.gb_store.specs.Faults.{IsOfMachine}
+use Rattle.gb_folder.proofs.Machine.{at_err, handed_on, machine_before}
+use Rattle.gb_folder.specs.Faults.{IsOfMachine}
 use Rattle.gb_tree.proofs.Answering.{all_zip_more}
 use Rattle.gb_tree.specs.Prints.{digests_of}
 use Rattle.gb_tree.specs.Reading.{entries_observed}
@@ -19,7 +18,7 @@ use Rattle.gb_tree.specs.Tree.{contents_at}
 use Rattle.gb_label.specs.ReadingAnswered.{IsInputAnswered, IsInputRead}
 use Rattle.gb_label.specs.Reading.{Read, is_input_of}
 use Rattle.gb_label.proofs.ReadingAnswering.{as_many, input_completed, next_made, tree_read_longer}
-use Rattle.gb_label.proofs.Loops.{name_more}
+use Rattle.gb_label.proofs.Loops.{all_at, name_more}
 use Rattle.gb_label.proofs.Readings.{Persists, among_within, gathered_more, inputs_exist, mapped_more, pair_is, tree_made, trees_made}
 use Rattle.gb_label.proofs.inputs.complete_inputs.Goals as goal
 

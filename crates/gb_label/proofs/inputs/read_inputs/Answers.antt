@@ -10,7 +10,7 @@ use Rattle.gb_history.specs.Record.{Prints}
 use Rattle.gb_history.proofs.Lists.{map_twice}
 use Rattle.gb_report.specs.declared.fault.Fault.{Fault}
 use Rattle.gb_plan.specs.declared.task.FileProperty.{FileProperty}
-use Rattle.gb_store.proofs.Machine.{at_err, handed_on, machine_before}
+use Rattle.gb_folder.proofs.Machine.{at_err, handed_on, machine_before}
 use Rattle.gb_tree.proofs.Answering.{all_zip_more}
 use Rattle.gb_tree.proofs.Holding.{all_wider}
 use Rattle.gb_tree.proofs.Observed.{each_more}

@@ -1,5 +1,5 @@
 use Rattle.std.proofs.lemmas.Result.{err_from_is_err_and}
-use Rattle.gb_store.proofs.Machine.{handed_on}
+use Rattle.gb_folder.proofs.Machine.{handed_on}
 use Rattle.gb_label.proofs.outputs.complete_one.Goals as goal
 
 pub returns-in_err-tree-clause-blamed : goal.returns-in_err-tree-clause-blamed

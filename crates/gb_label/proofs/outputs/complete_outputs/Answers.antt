@@ -13,9 +13,9 @@ use Rattle.gb_folder.specs.Files.{Contents}
 use Rattle.gb_history.specs.Record.{Prints}
 use Rattle.gb_plan.specs.Task.{is_output_of}
 use Rattle.gb_plan.specs.declared.task.Output.{Output}
-use Rattle.gb_store.proofs.Loops.{all_at}
-use Rattle.gb_store.proofs.Machine.{at_err, handed_on, machine_before}
-use Rattle.gb_store.specs.Faults.{IsOfMachine}
+use Rattle.gb_label.proofs.Loops.{all_at}
+use Rattle.gb_folder.proofs.Machine.{at_err, handed_on, machine_before}
+use Rattle.gb_folder.specs.Faults.{IsOfMachine}
 use Rattle.gb_tree.proofs.Answering.{all_zip_more}
 use Rattle.gb_tree.specs.Prints.{digests_of}
 use Rattle.gb_tree.specs.Reading.{entries_observed}

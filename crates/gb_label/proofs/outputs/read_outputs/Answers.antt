@@ -11,8 +11,8 @@ use Rattle.gb_history.proofs.Lists.{map_twice}
 use Rattle.gb_report.specs.declared.fault.Fault.{Fault}
 use Rattle.gb_plan.specs.Task.{is_output_of}
 use Rattle.gb_plan.specs.declared.task.Output.{Output}
-use Rattle.gb_store.proofs.Machine.{at_err, handed_on, machine_before}
-use Rattle.gb_store.proofs.Loops.{any_here}
+use Rattle.gb_folder.proofs.Machine.{at_err, handed_on, machine_before}
+use Rattle.gb_folder.proofs.Loops.{any_here}
 use Rattle.gb_tree.proofs.Answering.{all_zip_more}
 use Rattle.gb_tree.proofs.Holding.{all_wider}
 use Rattle.gb_tree.proofs.Observed.{each_more}

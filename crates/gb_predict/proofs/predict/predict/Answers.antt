@@ -7,7 +7,7 @@ use Rattle.gb_history.specs.Record.{Record}
 use Rattle.gb_history.proofs.Lists.{AllByRecursion-push}
 use Rattle.gb_plan.specs.Graph.{order}
 use Rattle.gb_plan.specs.declared.plan.Planned.{Planned}
-use Rattle.gb_store.proofs.Loops.{all_at}
+use Rattle.gb_label.proofs.Loops.{all_at}
 use Rattle.gb_predict.specs.Prediction.{IsPredictedOf, IsReasoned}
 use Rattle.gb_graph.specs.Places.{AreSamePlaces, places_from, with_places}
 use Rattle.gb_graph.specs.Ranked.{number_at}

@@ -4,8 +4,8 @@ use Rattle.gb_folder.specs.Files.{Contents, Place}
 use Rattle.gb_folder.proofs.Asked.{requests_then}
 use Rattle.gb_plan.specs.Task.{Path}
 use Rattle.gb_query.specs.Inventory.{AreLeftAt, IsLeftAt}
-use Rattle.gb_store.proofs.Machine.{machine_before}
-use Rattle.gb_store.specs.Faults.{IsOfMachine}
+use Rattle.gb_folder.proofs.Machine.{machine_before}
+use Rattle.gb_folder.specs.Faults.{IsOfMachine}
 use Rattle.gb_query.proofs.Left.{handed, rest_from}
 use Rattle.gb_query.proofs.inventory.left_at.Goals as goal
 

@@ -6,7 +6,7 @@ use Rattle.gb_records.specs.Called.{deletion_ending}
 use Rattle.gb_records.specs.Faults.{removed_by}
 use Rattle.gb_records.specs.declared.fault.Unwritten.{Unwritten}
 use Rattle.gb_records.proofs.Called.{DeletionLed, deletion_called, deletion_hindered, deletion_none}
-use Rattle.gb_store.proofs.Machine.{at_err}
+use Rattle.gb_folder.proofs.Machine.{at_err}
 use Rattle.std.proofs.lemmas.Result.{err_from_is_err_and}
 use Rattle.gb_records.specs.Holding.{ComesToNothing, HoldsWithout, taken_out}
 use Rattle.gb_records.proofs.Holding.{not_there}

@@ -5,8 +5,8 @@ use Rattle.gb_folder.proofs.Asked.{requests_then, requests_nothing}
 use Rattle.gb_folder.specs.Files.{Contents}
 use Rattle.gb_history.specs.Places.{record_place}
 use Rattle.gb_plan.specs.Task.{Path}
-use Rattle.gb_store.proofs.Machine.{handed_on}
-use Rattle.gb_store.specs.Changes.{is_at}
+use Rattle.gb_folder.proofs.Machine.{handed_on}
+use Rattle.gb_folder.specs.Changes.{is_at}
 use Rattle.gb_tree.proofs.Answering.{all_zip_more}
 use Rattle.gb_records.proofs.Answering.{answered_longer, any_part}
 use Rattle.gb_records.proofs.Calls.{parted, zip_append}

@@ -9,6 +9,7 @@ use Rattle.gb_records.proofs.Answering.{none_placed, none_existed}
 use Rattle.gb_folder.proofs.Answering.{on_way_here}
 use Rattle.gb_folder.specs.Answers.{IsOnWay}
 use Rattle.gb_folder.specs.Calls.{Reads, answered}
+use Rattle.gb_folder.specs.Device.{IsCalled}
 use Rattle.gb_records.proofs.stored_records.read_text.Goals as goal
 
 pub returns-in-Err-clause-read : goal.returns-in-Err-clause-read
@@ -46,8 +47,8 @@ returns-in-Ok-read-clause-answered g c =
     let old = c.args.folder.now in
     let new = c.read.new.folder in
     let bytes = c.in-Ok-read.bytes.items in
-    let call : F.device.allowed old (Reads (record_place c.args.path.now) max_record (Ok bytes)) new =
-    subst (λ (place : List ℕ). F.device.allowed old (Reads place max_record (Ok bytes)) new) c.in-Ok.ensures.place
-    (subst (λ r. F.device.allowed old (Reads c.in-Ok.place max_record (answered r)) new) c.in-Ok-read.is c.read.ensures.called.allowed) in
+    let call : IsCalled F.device old (Reads (record_place c.args.path.now) max_record (Ok bytes)) new =
+    subst (λ (place : List ℕ). IsCalled F.device old (Reads place max_record (Ok bytes)) new) c.in-Ok.ensures.place
+    (subst (λ r. IsCalled F.device old (Reads c.in-Ok.place max_record (answered r)) new) c.in-Ok-read.is c.read.ensures.called) in
     subst (λ (made : List ℕ). (length made ≤ max_record) × IsOnWay F.device (Reads (record_place c.args.path.now) max_record (Ok made)) old new)
     (sym c.new.ensures) (c.in-Ok-read.ensures.within, on_way_here call)

@@ -7,10 +7,10 @@ use Rattle.gb_folder.specs.Files.{Bytes, Contents}
 use Rattle.gb_folder.proofs.Asked.{requests_then, requests_nothing}
 use Rattle.gb_history.specs.Places.{record_place}
 use Rattle.gb_plan.specs.Task.{Path}
-use Rattle.gb_store.proofs.Loops.{any_here}
-use Rattle.gb_store.proofs.Machine.{at_err, handed_on, machine_before}
-use Rattle.gb_store.specs.Changes.{is_at}
-use Rattle.gb_store.specs.Faults.{IsOfMachine}
+use Rattle.gb_folder.proofs.Loops.{any_here}
+use Rattle.gb_folder.proofs.Machine.{at_err, handed_on, machine_before}
+use Rattle.gb_folder.specs.Changes.{is_at}
+use Rattle.gb_folder.specs.Faults.{IsOfMachine}
 use Rattle.gb_tree.proofs.Answering.{all_zip_more}
 use Rattle.gb_records.proofs.Answering.{text_answered_longer}
 use Rattle.gb_records.proofs.Calls.{read_more}

@@ -4,7 +4,7 @@ use Rattle.gb_core.specs.Lists.{first_of}
 use Rattle.gb_folder.specs.Files.{are_placed}
 use Rattle.gb_report.specs.declared.fault.Fault.{Fault}
 use Rattle.gb_report.specs.declared.fault.Fault.TheVariants as faults
-use Rattle.gb_store.proofs.Machine.{at_err}
+use Rattle.gb_folder.proofs.Machine.{at_err}
 use Rattle.gb_run.proofs.Fits.{fitting}
 use Rattle.gb_run.specs.Placing.{count_faults, faults_beside}
 use Rattle.gb_run.proofs.Placed.{beside_is, first_more, placed_over}

@@ -1,7 +1,7 @@
 use Rattle.std.proofs.Common.{List, Ok, subst}
 use Rattle.std.proofs.lemmas.List.{take_all}
 use Rattle.std.proofs.lemmas.Result.{err_from_is_err_and}
-use Rattle.gb_store.proofs.Machine.{at_err}
+use Rattle.gb_folder.proofs.Machine.{at_err}
 use Rattle.gb_run.specs.Steps.{Step}
 use Rattle.gb_run.specs.Doing.{Ending}
 use Rattle.gb_run.proofs.Done.{Led, led_more, led_short}

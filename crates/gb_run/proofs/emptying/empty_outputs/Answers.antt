@@ -3,17 +3,16 @@ use Rattle.std.specs.List.{list_all}
 use Rattle.std.proofs.lemmas.Result.{err_from_is_err_and, on_ok_weaker}
 use Rattle.gb_folder.specs.Each.{Each, Ended}
 use Rattle.gb_report.specs.declared.fault.Fault.{Fault}
-use Rattle.gb_store.proofs.Machine.{at_err}
+use Rattle.gb_folder.proofs.Machine.{at_err}
 use Rattle.gb_run.proofs.Listed.{EmptyingLed, emptying_done, emptying_unlisted}
 use Rattle.gb_folder.specs.Files.{Contents, without}
 use Rattle.gb_plan.specs.Task.{is_output_of}
 use Rattle.gb_plan.specs.declared.task.Output.{Output}
-use Rattle.gb_store.proofs.Emptied.{emptied}
-use Rattle.gb_store.proofs.Machine.{among_all, changes_chain, changes_none}
-use Rattle.gb_meaning.proofs.Lemmas.Truth.{each_of_all}
+use Rattle.gb_folder.proofs.Emptied.{emptied}
+use Rattle.gb_folder.proofs.Machine.{among_all}
 use Rattle.gb_run.specs.Emptying.{Listing, is_at_output, places_at}
 use Rattle.gb_folder.proofs.Asked.{requests_reading, requests_then, takes_where}
-use Rattle.gb_store.specs.Changes.{is_among}
+use Rattle.gb_folder.specs.Changes.{is_among}
 use Rattle.gb_run.proofs.emptying.empty_outputs.Goals as goal
 
 pub returns-clause-blamed : goal.returns-clause-blamed
@@ -22,15 +21,6 @@ returns-clause-blamed g c = λ place is.
     ap (list_all (is_at_output c.args.task.now.outputs)) c.as_slice-2.ensures.value
     ∙ ap (λ (outputs : List Output). list_all (is_at_output outputs) c.in_ok-places.places.items) (sym c.as_slice.ensures) ∙ c.in_ok-places.ensures.under in
     among_all (is_output_of c.args.task.now) c.as_slice-2.result.now place listed (c.remove_all.ensures.blamed place is)
-
-pub returns-clause-changes : goal.returns-clause-changes
-returns-clause-changes g c = λ faithful.
-    let listing = c.remove_all.ensures.requests.back faithful in
-    let listed : list_all (is_at_output c.args.task.now.outputs) c.as_slice-2.result.now ≡ true =
-    ap (list_all (is_at_output c.args.task.now.outputs)) c.as_slice-2.ensures.value
-    ∙ ap (λ (outputs : List Output). list_all (is_at_output outputs) c.in_ok-places.places.items) (sym c.as_slice.ensures) ∙ c.in_ok-places.ensures.under in
-    changes_chain (is_output_of c.args.task.now) _ _ _ (changes_none (is_output_of c.args.task.now) _ _ (c.listed_outputs.ensures.reads.same listing))
-    (c.remove_all.ensures.changes faithful (is_output_of c.args.task.now) (each_of_all (is_output_of c.args.task.now) c.as_slice-2.result.now listed))
 
 pub returns-clause-ok : goal.returns-clause-ok
 returns-clause-ok g c = λ faithful.

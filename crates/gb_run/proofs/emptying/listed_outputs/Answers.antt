@@ -20,9 +20,9 @@ use Rattle.gb_plan.specs.declared.task.Output.{Output}
 use Rattle.gb_report.specs.declared.fault.Fault.{Fault}
 use Rattle.gb_report.specs.declared.fault.Fault.TheVariants as faults
 use Rattle.gb_tree.specs.declared.fault.TreeFault.TheVariants as trees
-use Rattle.gb_store.specs.Faults.{IsOfMachine}
-use Rattle.gb_store.proofs.Machine.{at_err, machine_before}
-use Rattle.gb_store.proofs.Loops.{any_here, step_here}
+use Rattle.gb_folder.specs.Faults.{IsOfMachine}
+use Rattle.gb_folder.proofs.Machine.{at_err, machine_before}
+use Rattle.gb_folder.proofs.Loops.{any_here, step_here}
 use Rattle.gb_meaning.specs.Tree.{reported_of_tree}
 use Rattle.gb_run.specs.Work.{ending}
 use Rattle.gb_run.proofs.Listed.{listing_failed, listing_lost, listing_more}

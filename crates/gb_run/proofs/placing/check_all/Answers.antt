@@ -7,7 +7,7 @@ use Rattle.gb_core.specs.Lists.{first_of}
 use Rattle.gb_folder.specs.Files.{Bytes}
 use Rattle.gb_report.specs.declared.fault.Fault.{Fault}
 use Rattle.gb_report.specs.declared.fault.Fault.TheVariants as faults
-use Rattle.gb_store.proofs.Machine.{at_err}
+use Rattle.gb_folder.proofs.Machine.{at_err}
 use Rattle.gb_meaning.specs.Made.{file_faults}
 use Rattle.gb_run.specs.Texts.{files_in}
 use Rattle.gb_run.proofs.Placed.{first_more}

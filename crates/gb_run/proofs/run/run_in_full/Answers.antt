@@ -12,7 +12,7 @@ use Rattle.gb_report.specs.declared.fault.Fault.{Fault}
 use Rattle.gb_report.specs.declared.fault.Fault.TheVariants as faults
 use Rattle.gb_plan.specs.Task.{Text, is_output_of}
 use Rattle.gb_plan.specs.declared.task.Output.{Output}
-use Rattle.gb_store.proofs.Machine.{at_err}
+use Rattle.gb_folder.proofs.Machine.{at_err}
 use Rattle.gb_meaning.specs.Headline.{Agrees}
 use Rattle.gb_meaning.specs.Kinds.{Kinds}
 use Rattle.gb_meaning.specs.Made.{made_of}
@@ -22,7 +22,6 @@ use Rattle.gb_run.specs.Failing.{Fails, InFull}
 use Rattle.gb_run.specs.Work.{AreAtOutputs, RunsInFull, ending, or_made}
 use Rattle.gb_run.specs.Worked.{AreStepsAt}
 use Rattle.gb_run.specs.declared.work.Part.{Part}
-use Rattle.gb_run.proofs.Changed.{changes_of}
 use Rattle.gb_run.proofs.Ran.{blamed_parts_at, blamed_parts_for, device_alone, ended_badly, ended_well, if_made, permitted_parts, ran, runs_so}
 use Rattle.gb_run.proofs.Running.{fails_early}
 use Rattle.gb_run.proofs.run.run_in_full.Goals as goal
@@ -121,18 +120,6 @@ returns-clause-blamed g c = λ place is.
     let places = subst (λ (parts : List Part). AllByRecursion (AreStepsAt at) parts) (sym c.as_slice.ensures.value) c.in_ok-parts.ensures.places in
     blamed_parts_at at c.as_slice.result.now led.0 led.1 c.do_parts-done.result places led.3 place
     (device_alone c.do_parts-done.result c.in_ok-parts.field-0.made place c.in_ok-parts.ensures.blames (sym c.ended.ensures ∙ is))
-
-pub returns-clause-changes : goal.returns-clause-changes
-unfolding changes_at
-returns-clause-changes g c = λ faithful.
-    let F = g.F.Folder in
-    let device = F.device in
-    let led = c.do_parts-done.ensures in
-    let at = is_output_of c.args.task.now in
-    let places = subst (λ (parts : List Part). AllByRecursion (AreStepsAt at) parts) (sym c.as_slice.ensures.value) c.in_ok-parts.ensures.places in
-    changes_of at (F.device.may_leave c.args.folder.now) _ _ led.0 (permitted_parts (changes_at at) c.as_slice.result.now led.0 led.1 c.do_parts-done.result places led.3)
-    (answered_all device g.met.F.Folder.sound c.args.folder.now c.do_parts-done.new.folder led.0 faithful
-    led.2)
 
 pub returns-clause-ok : goal.returns-clause-ok
 returns-clause-ok g c = λ faithful.

@@ -9,7 +9,7 @@ use Rattle.gb_action.specs.declared.reply.Written.{Written}
 use Rattle.gb_tree.specs.Prints.{digests_of}
 use Rattle.gb_plan.specs.Task.{Text}
 use Rattle.gb_plan.specs.declared.task.Output.{Output}
-use Rattle.gb_store.proofs.Machine.{at_err}
+use Rattle.gb_folder.proofs.Machine.{at_err}
 use Rattle.gb_meaning.specs.Headline.{Agrees}
 use Rattle.gb_meaning.specs.Kinds.{Kinds, kind_of}
 use Rattle.gb_meaning.specs.Made.{placed, put_over, put_result}

@@ -2,7 +2,7 @@ use Rattle.std.proofs.Common.{◌++◌, [], ◌∷◌, List, Ok, Err, sym, ap, s
 use Rattle.std.proofs.lemmas.Result.{err_from_is_err_and}
 use Rattle.gb_report.specs.declared.fault.Fault.TheVariants as faults
 use Rattle.gb_plan.specs.Task.{Text}
-use Rattle.gb_store.proofs.Machine.{at_err}
+use Rattle.gb_folder.proofs.Machine.{at_err}
 use Rattle.gb_run.specs.Steps.{Step}
 use Rattle.gb_run.proofs.Endings.{with_none}
 use Rattle.gb_run.specs.Doing.{Does, Ending}

@@ -1,7 +1,7 @@
 use Rattle.std.proofs.Common.{List, Ok, subst}
 use Rattle.std.proofs.lemmas.List.{take_all}
 use Rattle.std.proofs.lemmas.Result.{err_from_is_err_and}
-use Rattle.gb_store.proofs.Machine.{at_err}
+use Rattle.gb_folder.proofs.Machine.{at_err}
 use Rattle.gb_run.specs.Doing.{Ending}
 use Rattle.gb_run.specs.declared.work.Part.{Part}
 use Rattle.gb_run.proofs.PartByPart.{PartsLed, parts_more, parts_short}

@@ -1,6 +1,5 @@
 use Rattle.std.proofs.Common.{option_copied, sym, subst}
-use Rattle.gb_folder.specs.Files.{Contents, is_empty}
-use Rattle.gb_tree.specs.Seen.{AreSeenIn}
+use Rattle.gb_folder.specs.Files.{is_empty}
 use Rattle.gb_task.specs.Settled.{AnswersAlone, IsOfTask, SettlesExecution, ReportsAnswer}
 use Rattle.gb_task.specs.Executing.{setting_with}
 use Rattle.gb_task.specs.declared.before_changes.Settled.{Settled}
@@ -9,7 +8,7 @@ use Rattle.gb_task.proofs.Idle.{alone, of_task, settles}
 use Rattle.gb_task.specs.Current.{WasSettled}
 use Rattle.gb_task.specs.Seen.{Remembers}
 use Rattle.gb_task.proofs.Answered.{was_settled}
-use Rattle.gb_task.proofs.SeenAfter.{remembers, remembers_in}
+use Rattle.gb_task.proofs.SeenAfter.{remembers}
 use Rattle.gb_task.proofs.before_changes.settle.Goals as goal
 
 pub returns-clause-of_task : goal.returns-clause-of_task
@@ -34,7 +33,7 @@ returns-clause-answer g c =
     (reports_answer c.args.options c.args.task.now c.args.path c.args.has_executed_need found.result found.ensures.may_be found.ensures.may_decide)
 
 pub returns-clause-settled : goal.returns-clause-settled
-returns-clause-settled g c = λ faithful there kinds registry_of plan moment folder count needed known.
+returns-clause-settled g c = λ faithful since before was kinds registry_of plan moment folder count needed known.
     let F = g.F.Folder in
     let start = c.args.folder.now in
     let found = c.prepare_by_seen-prepared in
@@ -42,7 +41,7 @@ returns-clause-settled g c = λ faithful there kinds registry_of plan moment fol
     subst (λ (s : Settled). SettlesExecution (setting_with kinds registry_of (F.device.may_leave start)) c.args.options plan c.args.task.now moment (F.device.contents start) (F.device.failures now) s) (sym c.settled_by.ensures.settled)
     (settles (setting_with kinds registry_of (F.device.may_leave start)) c.args.options plan c.args.task.now c.args.path moment (F.device.contents start) (F.device.failures start) (F.device.failures now) c.args.has_executed_need
     (option_copied c.args.last) c.requires.not_own folder count needed known c.outside_is_enough.ensures c.prepared_is_case.ensures c.idle_executions_are_executions.ensures c.runs_are_of_case.ensures
-    found.result (found.ensures.prepared faithful there) (found.ensures.observed faithful there) (found.ensures.err faithful) found.ensures.reading found.ensures.blamed)
+    found.result (found.ensures.prepared faithful since before was) (found.ensures.observed faithful since before was) (found.ensures.err faithful) found.ensures.reading found.ensures.blamed)
 
 pub returns-clause-answered : goal.returns-clause-answered
 returns-clause-answered g c = λ since before was.
@@ -63,12 +62,3 @@ returns-clause-remembers g c =
     subst (λ (s : Settled). Remembers F.device start now c.args.seen.now c.settled_by.new.seen s) (sym c.settled_by.ensures.settled)
     (remembers F.device start now c.args.options c.args.task.now (option_copied c.args.last) c.settled_by.new.seen found.new.seen c.args.seen.now found.ensures.seen
     c.args.path c.args.has_executed_need found.result c.settled_by.ensures.seen found.ensures.answered)
-
-pub returns-clause-seen_in : goal.returns-clause-seen_in
-returns-clause-seen_in g c = λ faithful there.
-    let F = g.F.Folder in
-    let found = c.prepare_by_seen-prepared in
-    let start = c.args.folder.now in
-    subst (λ (contents : Contents). AreSeenIn contents.files c.settled_by.new.seen) (sym (found.ensures.reads.same faithful))
-    (remembers_in c.args.task.now (F.device.contents start).files c.settled_by.new.seen found.new.seen c.args.has_executed_need found.result c.settled_by.ensures.seen (found.ensures.observed faithful there)
-    (found.ensures.seen_in faithful there))

@@ -12,7 +12,7 @@ use Rattle.gb_meaning.specs.Made.{rest_of}
 use Rattle.gb_report.specs.declared.fault.Fault.{Fault}
 use Rattle.gb_report.specs.declared.fault.Fault.TheVariants as faults
 use Rattle.gb_run.specs.RunInput.{run_input}
-use Rattle.gb_store.proofs.Machine.{at_err}
+use Rattle.gb_folder.proofs.Machine.{at_err}
 use Rattle.gb_run.proofs.Writer.{writer_of}
 use Rattle.gb_task.proofs.Cut.{cut_by_changes}
 use Rattle.gb_task.proofs.Given.{named_digests}

@@ -10,12 +10,13 @@ use Rattle.gb_records.specs.Said.{IsSaidOf}
 use Rattle.gb_records.specs.Holding.{HoldsRecords}
 use Rattle.gb_report.specs.declared.fault.Fault.{Fault}
 use Rattle.gb_run.proofs.Existed.{made_exists}
-use Rattle.gb_store.specs.Changes.{ChangesOnly, is_at}
-use Rattle.gb_store.proofs.Machine.{at_err, changes_chain}
+use Rattle.gb_folder.specs.Changes.{ChangesOnly, is_at}
+use Rattle.gb_folder.proofs.Machine.{at_err, changes_chain}
 use Rattle.gb_run.proofs.Fitting.{all_fitting}
 use Rattle.gb_label.specs.Reading.{digests_in}
 use Rattle.gb_task.specs.Keeping.{IsForgotten, IsUnwritten, run_now}
 use Rattle.gb_task.specs.Executing.{HasExecuted, is_of_execution, report_of, setting_with}
+use Rattle.gb_folder.proofs.Elsewhere.{changed_there, removed_there, written_there}
 use Rattle.gb_task.proofs.ByChanges.{forgetting_failed, goes_on, remembering, running_failed}
 use Rattle.gb_task.proofs.Cleared.{outputs_in_execution, record_in_execution}
 use Rattle.gb_task.proofs.Given.{none_read}
@@ -23,12 +24,9 @@ use Rattle.gb_task.proofs.Parts.{outside_same}
 use Rattle.gb_task.proofs.Recorded.{record_exists, observed_later}
 use Rattle.gb_task.specs.Stages.{IsOfRunByChanges, RunByChanges, WritesChanges}
 use Rattle.gb_task.proofs.Stages.{StageLed, changes_kept, changes_on, made, unmade}
+use Rattle.gb_folder.proofs.Asked.{requests_then}
+use Rattle.gb_task.proofs.Places.{outputs_of, record_of, record_taken, taken_of}
 use Rattle.gb_task.proofs.by_changes.run_by_decided_changes.Goals as goal
-
-pub returns-in_err-forget-clause-changes : goal.returns-in_err-forget-clause-changes
-returns-in_err-forget-clause-changes g c = λ faithful.
-    let F = g.F.Folder in
-    record_in_execution c.args.task.now (F.device.contents c.args.folder.now) (F.device.contents c.forget.new.folder) (c.forget.ensures.changes faithful)
 
 pub returns-in_err-forget-clause-execution : goal.returns-in_err-forget-clause-execution
 returns-in_err-forget-clause-execution g c = λ faithful kinds registry_of options plan moment given at are_trees are_outputs due.
@@ -43,16 +41,8 @@ returns-in_err-forget-clause-execution g c = λ faithful kinds registry_of optio
     c.from_residual.result p.0 c.in_err-forget.field-0.0 p.1 p.2
     (forgetting_failed kinds registry_of (F.device.may_leave start) options plan task true moment (F.device.contents start) (F.device.failures start) c.args.changes c.requires.buildable.not_own c.requires.separate at due
     c.in_err-forget.field-0.0 c.args.lines.now (F.device.failures start) (F.device.failures now) (F.device.contents start) (F.device.contents now) c.requires.no_lines refl
-    (omega arith) c.forget.ensures.requests.count refl (c.in_err-forget.ensures.err faithful) (c.forget.ensures.changes faithful)
+    (omega arith) c.forget.ensures.requests.count refl (c.in_err-forget.ensures.err faithful) (removed_there c.forget.ensures.requests faithful)
     (subst (λ (r : Result (Unit {0}) Fault). IsForgotten task.path memory r (F.device.contents now).files) c.in_err-forget.was records))
-
-pub returns-in_err-run-clause-changes : goal.returns-in_err-run-clause-changes
-returns-in_err-run-clause-changes g c = λ faithful.
-    let F = g.F.Folder in
-    let task = c.args.task.now in
-    changes_chain (is_of_execution task) (F.device.contents c.args.folder.now) (F.device.contents c.forget.new.folder) (F.device.contents c.make_by_changes.new.folder)
-    (record_in_execution task (F.device.contents c.args.folder.now) (F.device.contents c.forget.new.folder) (c.forget.ensures.changes (c.make_by_changes.ensures.requests.back faithful)))
-    (outputs_in_execution task (F.device.contents c.forget.new.folder) (F.device.contents c.make_by_changes.new.folder) (c.make_by_changes.ensures.changes faithful))
 
 pub returns-in_err-run-clause-execution : goal.returns-in_err-run-clause-execution
 returns-in_err-run-clause-execution g c = λ faithful kinds registry_of options plan moment given at are_trees are_outputs due.
@@ -66,7 +56,7 @@ returns-in_err-run-clause-execution g c = λ faithful kinds registry_of options 
     let records = c.forget.ensures.exists then_known given.tears memory at.records (none_read (recalled memory task.path) true at.read) in
     let forgotten : HoldsRecords (F.device.contents then).files (forget memory task.path) =
     subst (λ (r : Result (Unit {0}) Fault). IsForgotten task.path memory r (F.device.contents then).files) c.in_ok-forget.was records in
-    let gone : ChangesOnly (is_at (record_place task.path)) (F.device.contents start) (F.device.contents then) = c.forget.ensures.changes then_known in
+    let gone : ChangesOnly (is_at (record_place task.path)) (F.device.contents start) (F.device.contents then) = removed_there c.forget.ensures.requests then_known in
     let goes = goes_on kinds registry_of (F.device.may_leave start) options plan task true moment (F.device.contents start) (F.device.failures start) c.args.changes c.requires.buildable.not_own c.requires.separate at due
     c.requires.buildable.in_order c.as_str-path.ensures.path c.requires.outputs_separate (F.device.contents then) gone c.args.inputs.trees c.args.outputs.observed are_trees are_outputs in
     let p = err_from_is_err_and c.from_residual-in_err-run.result c.from_residual-in_err-run.ensures.1 in
@@ -75,22 +65,11 @@ returns-in_err-run-clause-execution g c = λ faithful kinds registry_of options 
     (running_failed kinds registry_of (F.device.may_leave start) options plan task true moment (F.device.contents start) (F.device.failures start) c.args.changes c.requires.buildable.not_own c.requires.separate at due
     (F.device.may_leave then) c.make_by_changes.new.lines (F.device.failures then) (F.device.contents then) (F.device.contents now) c.args.inputs.trees
     c.forget.ensures.requests.tearing c.forget.ensures.requests.count gone forgotten
-    are_trees (c.make_by_changes.ensures.changes faithful)
-    (returns-in_err-run-clause-changes g c faithful) c.in_err-run.field-0.0 (F.device.failures now) c.make_by_changes.ensures.requests.count
+    are_trees (changed_there c.make_by_changes.ensures.requests faithful)
+    (changed_there (requests_then (taken_of task (record_taken task c.forget.ensures.requests)) (outputs_of task c.make_by_changes.ensures.requests)) faithful) c.in_err-run.field-0.0 (F.device.failures now) c.make_by_changes.ensures.requests.count
     (λ place e. c.make_by_changes.ensures.blamed place (c.in_err-run.was ∙ ap Err e))
     (all_fitting g.A.Actions.meanings kinds c.args.table.now task task.actions g.A.Actions.own_output given.agrees c.requires.buildable.ready)
     (c.in_err-run.ensures.err faithful kinds given.agrees _ goes))
-
-pub returns-clause-changes : goal.returns-clause-changes
-returns-clause-changes g c = λ faithful.
-    let made = c.remember.ensures.requests.back faithful in
-    let F = g.F.Folder in
-    let task = c.args.task.now in
-    changes_chain (is_of_execution task) (F.device.contents c.args.folder.now) (F.device.contents c.make_by_changes.new.folder) (F.device.contents c.remember.new.folder)
-    (changes_chain (is_of_execution task) (F.device.contents c.args.folder.now) (F.device.contents c.forget.new.folder) (F.device.contents c.make_by_changes.new.folder)
-    (record_in_execution task (F.device.contents c.args.folder.now) (F.device.contents c.forget.new.folder) (c.forget.ensures.changes (c.make_by_changes.ensures.requests.back made)))
-    (outputs_in_execution task (F.device.contents c.forget.new.folder) (F.device.contents c.make_by_changes.new.folder) (c.make_by_changes.ensures.changes made)))
-    (record_in_execution task (F.device.contents c.make_by_changes.new.folder) (F.device.contents c.remember.new.folder) (c.remember.ensures.changes faithful))
 
 pub returns-clause-execution : goal.returns-clause-execution
 returns-clause-execution g c = λ faithful kinds registry_of options plan moment given at are_trees are_outputs due.
@@ -106,13 +85,13 @@ returns-clause-execution g c = λ faithful kinds registry_of options plan moment
     let records = c.forget.ensures.exists then_known given.tears memory at.records (none_read (recalled memory task.path) true at.read) in
     let forgotten : HoldsRecords (F.device.contents then).files (forget memory task.path) =
     subst (λ (r : Result (Unit {0}) Fault). IsForgotten task.path memory r (F.device.contents then).files) c.in_ok-forget.was records in
-    let gone : ChangesOnly (is_at (record_place task.path)) (F.device.contents start) (F.device.contents then) = c.forget.ensures.changes then_known in
+    let gone : ChangesOnly (is_at (record_place task.path)) (F.device.contents start) (F.device.contents then) = removed_there c.forget.ensures.requests then_known in
     let goes = goes_on kinds registry_of (F.device.may_leave start) options plan task true moment (F.device.contents start) (F.device.failures start) c.args.changes c.requires.buildable.not_own c.requires.separate at due
     c.requires.buildable.in_order c.as_str-path.ensures.path c.requires.outputs_separate (F.device.contents then) gone c.args.inputs.trees c.args.outputs.observed are_trees are_outputs in
     let changed : ChangesOnly (is_of_execution task) (F.device.contents start) (F.device.contents ran) =
     changes_chain (is_of_execution task) (F.device.contents start) (F.device.contents then) (F.device.contents ran)
     (record_in_execution task (F.device.contents start) (F.device.contents then) gone)
-    (outputs_in_execution task (F.device.contents then) (F.device.contents ran) (c.make_by_changes.ensures.changes ran_known)) in
+    (outputs_in_execution task (F.device.contents then) (F.device.contents ran) (changed_there c.make_by_changes.ensures.requests ran_known)) in
     let ended = c.in_ok-run.ensures.ok ran_known kinds given.agrees _ goes in
     let exists : c.in_ok-run.run' ≡ run_now task c.args.inputs.prints.items (F.device.contents ran).files =
     record_exists kinds task c.args.inputs.trees c.args.inputs.prints.items (F.device.contents ran).files c.in_ok-run.run'
@@ -122,12 +101,12 @@ returns-clause-execution g c = λ faithful kinds registry_of options plan moment
     remembering kinds registry_of (F.device.may_leave start) options plan task true moment (F.device.contents start) (F.device.failures start) c.args.changes c.requires.buildable.not_own c.requires.separate at due
     (F.device.may_leave then) c.make_by_changes.new.lines (F.device.failures then) (F.device.contents then) (F.device.contents ran) c.args.inputs.trees
     c.forget.ensures.requests.tearing c.forget.ensures.requests.count gone forgotten
-    are_trees (c.make_by_changes.ensures.changes ran_known) changed
+    are_trees (changed_there c.make_by_changes.ensures.requests ran_known) changed
     (g.met.F.Folder.sound then).in_order ended c.args.inputs.prints.items (F.device.failures ran) (F.device.failures now) (F.device.contents now)
     (c.requires.digests ∙ ap digests_in are_trees)
     c.make_by_changes.ensures.requests.count c.remember.ensures.requests.count
-    (changes_chain (is_of_execution task) (F.device.contents start) (F.device.contents ran) (F.device.contents now) changed (record_in_execution task (F.device.contents ran) (F.device.contents now) (c.remember.ensures.changes faithful)))
-    (ap (λ (folder : Contents). folder.files) (outside_same task.path (F.device.contents ran) (F.device.contents now) (c.remember.ensures.changes faithful)))
+    (changes_chain (is_of_execution task) (F.device.contents start) (F.device.contents ran) (F.device.contents now) changed (record_in_execution task (F.device.contents ran) (F.device.contents now) (written_there _ c.remember.ensures.requests faithful)))
+    (ap (λ (folder : Contents). folder.files) (outside_same task.path (F.device.contents ran) (F.device.contents now) (written_there _ c.remember.ensures.requests faithful)))
     c.remember.result
     (subst (λ (run : Record). IfErr c.remember.result (IsUnwritten task.path (Some (record_text task.path run)) (F.device.contents ran).files (F.device.failures ran) (F.device.failures now))) exists (c.remember.ensures.err faithful))
     c.remember.ensures.outputs
@@ -171,3 +150,15 @@ returns-clause-ran g c =
     changes_on F.device meanings rows task trees changes observed c.args.folder.now c.forget.new.folder c.remember.new.folder c.make_by_changes.new.lines c.remember.result c.in_ok-forget.ensures.calls
     (made F.device task (WritesChanges meanings rows task trees changes observed) (IsOfRunByChanges meanings rows task trees changes observed) c.forget.new.folder c.make_by_changes.new.folder c.remember.new.folder
     c.make_by_changes.new.lines led.1 c.remember.result c.in_ok-run.run' (led.0, led.2, led.3) led.4 c.in_ok-run.ensures.made c.remember.ensures.calls)
+
+pub returns-in_err-forget-clause-requests : goal.returns-in_err-forget-clause-requests
+returns-in_err-forget-clause-requests g c = taken_of c.args.task.now (record_taken c.args.task.now c.forget.ensures.requests)
+
+pub returns-in_err-run-clause-requests : goal.returns-in_err-run-clause-requests
+returns-in_err-run-clause-requests g c =
+    requests_then (taken_of c.args.task.now (record_taken c.args.task.now c.forget.ensures.requests)) (outputs_of c.args.task.now c.make_by_changes.ensures.requests)
+
+pub returns-clause-requests : goal.returns-clause-requests
+returns-clause-requests g c =
+    requests_then (requests_then (taken_of c.args.task.now (record_taken c.args.task.now c.forget.ensures.requests)) (outputs_of c.args.task.now c.make_by_changes.ensures.requests))
+    (record_of c.args.task.now _ c.remember.ensures.requests)

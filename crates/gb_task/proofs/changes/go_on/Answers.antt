@@ -4,7 +4,7 @@ use Rattle.gb_folder.specs.Files.{Contents}
 use Rattle.gb_meaning.specs.Label.{Moment}
 use Rattle.gb_meaning.specs.Tree.{trees_of}
 use Rattle.gb_report.specs.declared.fault.Fault.{Fault}
-use Rattle.gb_store.proofs.Machine.{at_err}
+use Rattle.gb_folder.proofs.Machine.{at_err}
 use Rattle.gb_label.specs.Reading.{observed_of}
 use Rattle.gb_task.specs.Recheck.{IsAsBefore, IsRecheck}
 use Rattle.gb_task.specs.Current.{WasReadRecheck}
@@ -12,7 +12,7 @@ use Rattle.gb_task.specs.Executing.{HasExecuted, report_of, setting_with}
 use Rattle.gb_task.proofs.ByChanges.{reading_failed}
 use Rattle.gb_task.proofs.Later.{comes_later, due_since, turned_before}
 use Rattle.gb_task.proofs.Recorded.{assumed_later}
-use Rattle.gb_folder.proofs.Asked.{requests_nothing, requests_then}
+use Rattle.gb_folder.proofs.Asked.{requests_nothing, requests_then, requests_reading}
 use Rattle.gb_label.proofs.ReadingAnswering.{inputs_longer}
 use Rattle.gb_task.proofs.changes.go_on.Goals as goal
 
@@ -32,7 +32,7 @@ returns-in_err-inputs-clause-execution g c = λ faithful kinds registry_of plan 
 
 pub returns-in-ByChanges-clause-execution : goal.returns-in-ByChanges-clause-execution
 returns-in-ByChanges-clause-execution g c = λ faithful kinds registry_of plan moment given at read existed goes.
-    let rechecked = c.run_by_decided_changes.ensures.back faithful in
+    let rechecked = c.run_by_decided_changes.ensures.requests.back faithful in
     let F = g.F.Folder in
     let task = c.args.task.now in
     let start = c.args.folder.now in
@@ -44,7 +44,7 @@ returns-in-ByChanges-clause-execution g c = λ faithful kinds registry_of plan m
     let before = subst (IsAsBefore kinds c.args.options task (F.device.contents start).files moment.world) c.in-ByChanges.is (c.in_ok-inputs.ensures.as_before rechecked kinds moment.world at.folder read existed goes) in
     let report = report_of task c.run_by_decided_changes.result c.run_by_decided_changes.new.lines in
     turned_before kinds registry_of (F.device.may_leave start) (F.device.may_leave then) c.recheck_task.ensures.reads.requests.tearing c.args.options plan task moment (F.device.failures then)
-    (subst (λ (n : ℕ). n ≤ F.device.failures then) (sym at.failures) c.recheck_task.ensures.reads.requests.count) report (F.device.contents start) (F.device.failures now) (F.device.contents now) c.run_by_decided_changes.ensures.count
+    (subst (λ (n : ℕ). n ≤ F.device.failures then) (sym at.failures) c.recheck_task.ensures.reads.requests.count) report (F.device.contents start) (F.device.failures now) (F.device.contents now) c.run_by_decided_changes.ensures.requests.count
     (subst (λ (folder : Contents). HasExecuted (setting_with kinds registry_of (F.device.may_leave then)) c.args.options plan task later report folder (F.device.failures now) (F.device.contents now)) same
     (c.run_by_decided_changes.ensures.execution faithful kinds registry_of c.args.options plan later (assumed_later _ _ c.recheck_task.ensures.reads.requests.tearing given) came
     (before.0 ∙ ap (λ (folder : Contents). trees_of task folder.files) (sym same))
@@ -55,7 +55,7 @@ returns-in-InFull-clause-execution g c = λ faithful kinds registry_of plan mome
     let F = g.F.Folder in
     absurd
     (subst (IsAsBefore kinds c.args.options c.args.task.now (F.device.contents c.args.folder.now).files moment.world) c.in-InFull.is
-    (c.in_ok-inputs.ensures.as_before (c.run_on.ensures.back faithful) kinds moment.world at.folder read existed goes))
+    (c.in_ok-inputs.ensures.as_before (c.run_on.ensures.requests.back faithful) kinds moment.world at.folder read existed goes))
 
 pub returns-in_err-inputs-clause-ran : goal.returns-in_err-inputs-clause-ran
 returns-in_err-inputs-clause-ran g c = λ first before inputs outputs.
@@ -102,3 +102,12 @@ returns-in-InFull-clause-ran g c = λ first before inputs outputs.
         ran.2,
       ),
     ))
+
+pub returns-in_err-inputs-clause-requests : goal.returns-in_err-inputs-clause-requests
+returns-in_err-inputs-clause-requests g c = requests_reading c.recheck_task.ensures.reads.requests
+
+pub returns-in-ByChanges-clause-requests : goal.returns-in-ByChanges-clause-requests
+returns-in-ByChanges-clause-requests g c = requests_then (requests_reading c.recheck_task.ensures.reads.requests) c.run_by_decided_changes.ensures.requests
+
+pub returns-in-InFull-clause-requests : goal.returns-in-InFull-clause-requests
+returns-in-InFull-clause-requests g c = requests_then (requests_reading c.recheck_task.ensures.reads.requests) c.run_on.ensures.requests

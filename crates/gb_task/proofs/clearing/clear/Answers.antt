@@ -2,20 +2,16 @@ use Rattle.std.proofs.Common.{[], Result, inl, subst}
 use Rattle.std.proofs.lemmas.Result.{err_from_is_err_and}
 use Rattle.gb_folder.specs.Files.{Contents}
 use Rattle.gb_report.specs.declared.fault.Fault.{Fault}
-use Rattle.gb_store.proofs.Machine.{at_err, changes_chain}
+use Rattle.gb_folder.proofs.Machine.{at_err}
 use Rattle.gb_task.specs.Clearing.{HasCleared}
 use Rattle.gb_task.specs.Keeping.{IsForgotten}
-use Rattle.gb_task.specs.Executing.{is_of_execution}
-use Rattle.gb_task.proofs.Cleared.{cleared_by, outputs_in_execution, record_in_execution, records_stay}
+use Rattle.gb_folder.proofs.Elsewhere.{removed_there, taken_there}
+use Rattle.gb_task.proofs.Cleared.{cleared_by, records_stay}
 use Rattle.gb_folder.proofs.Asked.{requests_then}
 use Rattle.gb_task.proofs.Places.{outputs_taken, record_taken}
 use Rattle.gb_task.specs.Stages.{Clears}
 use Rattle.gb_task.proofs.Stages.{StageLed, cleared, kept}
 use Rattle.gb_task.proofs.clearing.clear.Goals as goal
-
-pub returns-in_err-forget-clause-changes : goal.returns-in_err-forget-clause-changes
-returns-in_err-forget-clause-changes g c = λ faithful.
-    record_in_execution c.args.task.now (g.F.Folder.device.contents c.args.folder.now) (g.F.Folder.device.contents c.forget.new.folder) (c.forget.ensures.changes faithful)
 
 pub returns-in_err-forget-clause-cleared : goal.returns-in_err-forget-clause-cleared
 returns-in_err-forget-clause-cleared g c = λ faithful observed memory existed none.
@@ -29,17 +25,9 @@ returns-in_err-forget-clause-cleared g c = λ faithful observed memory existed n
     (inl (record {
       read = c.in_err-forget.ensures.read;
       why = c.in_err-forget.ensures.err faithful;
-      changes = c.forget.ensures.changes faithful;
+      changes = removed_there c.forget.ensures.requests faithful;
       records = subst (λ (r : Result (Unit {0}) Fault). IsForgotten task.path memory r new.files) c.in_err-forget.was (c.forget.ensures.exists faithful observed memory existed none);
     }))
-
-pub returns-clause-changes : goal.returns-clause-changes
-returns-clause-changes g c = λ faithful.
-    let F = g.F.Folder in
-    let task = c.args.task.now in
-    changes_chain (is_of_execution task) (F.device.contents c.args.folder.now) (F.device.contents c.forget.new.folder) (F.device.contents c.empty_outputs.new.folder)
-    (record_in_execution task (F.device.contents c.args.folder.now) (F.device.contents c.forget.new.folder) (c.forget.ensures.changes (c.empty_outputs.ensures.requests.back faithful)))
-    (outputs_in_execution task (F.device.contents c.forget.new.folder) (F.device.contents c.empty_outputs.new.folder) (c.empty_outputs.ensures.changes faithful))
 
 pub returns-clause-cleared : goal.returns-clause-cleared
 returns-clause-cleared g c = λ faithful observed memory existed none.
@@ -51,9 +39,9 @@ returns-clause-cleared g c = λ faithful observed memory existed none.
     let now = c.empty_outputs.new.folder in
     let taken : Contents = F.device.contents then in
     cleared_by task c.args.was_read memory (F.device.may_leave start) (F.device.may_leave then) (F.device.failures start) (F.device.failures then) (F.device.failures now) (F.device.contents start) (F.device.contents then) (F.device.contents now)
-    c.empty_outputs.result c.forget.ensures.requests.tearing c.forget.ensures.requests.count c.empty_outputs.ensures.requests.count (g.met.F.Folder.sound then) (c.forget.ensures.changes forgotten)
+    c.empty_outputs.result c.forget.ensures.requests.tearing c.forget.ensures.requests.count c.empty_outputs.ensures.requests.count (g.met.F.Folder.sound then) (removed_there c.forget.ensures.requests forgotten)
     (c.empty_outputs.ensures.ok faithful) (c.empty_outputs.ensures.err faithful)
-    (records_stay task c.requires.not_own (F.device.contents then) (F.device.contents now) _ (c.empty_outputs.ensures.changes faithful)
+    (records_stay task c.requires.not_own (F.device.contents then) (F.device.contents now) _ (taken_there c.empty_outputs.ensures.requests faithful)
     (subst (λ (r : Result (Unit {0}) Fault). IsForgotten task.path memory r taken.files) c.in_ok-forget.was (c.forget.ensures.exists forgotten observed memory existed none)))
 
 pub returns-in_err-forget-clause-requests : goal.returns-in_err-forget-clause-requests

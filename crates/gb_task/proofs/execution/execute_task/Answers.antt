@@ -10,7 +10,7 @@ use Rattle.gb_task.proofs.Answering.{cleared_answers, run_answers, reported_answ
 use Rattle.gb_task.proofs.Later.{cleared_started, comes_later, copied_some, run_started, reported_turned, turned_before}
 use Rattle.gb_task.proofs.Recorded.{assumed_later, observed_later}
 use Rattle.gb_plan.specs.Task.{Text}
-use Rattle.gb_tree.proofs.Remembering.{none_seen, none_seen_in}
+use Rattle.gb_tree.proofs.Remembering.{none_seen}
 use Rattle.gb_task.specs.Stages.{Clears}
 use Rattle.gb_task.proofs.execution.execute_task.Goals as goal
 
@@ -29,15 +29,15 @@ pub returns-in-Due-clause-answer : goal.returns-in-Due-clause-answer
 returns-in-Due-clause-answer g c = run_answers c.args.options c.args.task.now c.run.result c.run.ensures.outcome
 
 pub returns-in-Reported-clause-execution : goal.returns-in-Reported-clause-execution
-returns-in-Reported-clause-execution g c = λ faithful there kinds registry_of plan moment given at needed known.
+returns-in-Reported-clause-execution g c = λ faithful since before was kinds registry_of plan moment given at needed known.
     let F = g.F.Folder in
     let start = c.args.folder.now in
     let now = c.settle.new.folder in
     reported_turned kinds registry_of (F.device.may_leave start) c.args.options plan c.args.task.now _ moment c.in-Reported.report (F.device.contents start) (F.device.failures start) (F.device.failures now) (F.device.contents now) at
-    (c.settle.ensures.reads.same faithful) (c.in-Reported.ensures.settled faithful there kinds registry_of plan moment at.folder at.failures needed known)
+    (c.settle.ensures.reads.same faithful) (c.in-Reported.ensures.settled faithful since before was kinds registry_of plan moment at.folder at.failures needed known)
 
 pub returns-in-Sourceless-clause-execution : goal.returns-in-Sourceless-clause-execution
-returns-in-Sourceless-clause-execution g c = λ faithful there kinds registry_of plan moment given at needed known.
+returns-in-Sourceless-clause-execution g c = λ faithful since before was kinds registry_of plan moment given at needed known.
     let settled = c.execute_without_source.ensures.requests.back faithful in
     let F = g.F.Folder in
     let task = c.args.task.now in
@@ -52,7 +52,7 @@ returns-in-Sourceless-clause-execution g c = λ faithful there kinds registry_of
     (subst (λ (n : ℕ). n ≤ F.device.failures then) (sym at.failures) c.settle.ensures.reads.requests.count) c.execute_without_source.result (F.device.contents start) (F.device.failures now) (F.device.contents now) c.execute_without_source.ensures.requests.count
     (subst (λ (folder : Contents). HasExecuted (setting_with kinds registry_of (F.device.may_leave then)) c.args.options plan task later c.execute_without_source.result folder (F.device.failures now) (F.device.contents now)) same
     (c.execute_without_source.ensures.execution faithful kinds registry_of c.args.options plan later (observed_later _ _ c.settle.ensures.reads.requests.tearing given.tears) came
-    (c.in-Sourceless.ensures.settled settled there kinds registry_of plan moment at.folder at.failures needed known)))
+    (c.in-Sourceless.ensures.settled settled since before was kinds registry_of plan moment at.folder at.failures needed known)))
 
 pub run-requires-clause-due : goal.run-requires-clause-due
 run-requires-clause-due g c = c.in-Due.ensures.of_task.1
@@ -61,8 +61,8 @@ pub run-requires-clause-read : goal.run-requires-clause-read
 run-requires-clause-read g c = c.in-Due.ensures.of_task.2
 
 pub returns-in-Due-clause-execution : goal.returns-in-Due-clause-execution
-returns-in-Due-clause-execution g c = λ faithful there kinds registry_of plan moment given at needed known.
-    let settled = c.run.ensures.back faithful in
+returns-in-Due-clause-execution g c = λ faithful since before was kinds registry_of plan moment given at needed known.
+    let settled = c.run.ensures.requests.back faithful in
     let F = g.F.Folder in
     let task = c.args.task.now in
     let start = c.args.folder.now in
@@ -71,9 +71,9 @@ returns-in-Due-clause-execution g c = λ faithful there kinds registry_of plan m
     let same : F.device.contents then ≡ F.device.contents start = c.settle.ensures.reads.same settled in
     let came = comes_later task _ (F.device.contents start) (F.device.failures start) moment (F.device.contents then) (F.device.failures then) same at in
     let later : Moment = record { world = moment.world; outcomes = moment.outcomes; failures = F.device.failures then } in
-    let due = c.in-Due.ensures.settled settled there kinds registry_of plan moment at.folder at.failures needed known in
+    let due = c.in-Due.ensures.settled settled since before was kinds registry_of plan moment at.folder at.failures needed known in
     turned_before kinds registry_of (F.device.may_leave start) (F.device.may_leave then) c.settle.ensures.reads.requests.tearing c.args.options plan task moment (F.device.failures then)
-    (subst (λ (n : ℕ). n ≤ F.device.failures then) (sym at.failures) c.settle.ensures.reads.requests.count) c.run.result (F.device.contents start) (F.device.failures now) (F.device.contents now) c.run.ensures.count
+    (subst (λ (n : ℕ). n ≤ F.device.failures then) (sym at.failures) c.settle.ensures.reads.requests.count) c.run.result (F.device.contents start) (F.device.failures now) (F.device.contents now) c.run.ensures.requests.count
     (subst (λ (folder : Contents). HasExecuted (setting_with kinds registry_of (F.device.may_leave then)) c.args.options plan task later c.run.result folder (F.device.failures now) (F.device.contents now)) same
     (c.run.ensures.execution faithful kinds registry_of plan later (assumed_later _ _ c.settle.ensures.reads.requests.tearing given) came due.0 due.1 due.2
     (subst (λ (folder : Contents). IsObservedFor task folder.files c.in-Due.observed c.in-Due.decision) (sym same) due.3) known))
@@ -133,11 +133,3 @@ pub returns-in-Due-clause-seen : goal.returns-in-Due-clause-seen
 returns-in-Due-clause-seen g c = λ since before was.
     let F = g.F.Folder in
     none_seen F.device (since_after c.run.result.outcome since c.run.new.folder) c.run.new.folder c.settle.new.seen c.in-Due.ensures.remembers
-
-pub returns-in-Sourceless-clause-seen_in : goal.returns-in-Sourceless-clause-seen_in
-returns-in-Sourceless-clause-seen_in g c = λ faithful there.
-    none_seen_in (g.F.Folder.device.contents c.execute_without_source.new.folder).files c.settle.new.seen c.in-Sourceless.ensures.remembers
-
-pub returns-in-Due-clause-seen_in : goal.returns-in-Due-clause-seen_in
-returns-in-Due-clause-seen_in g c = λ faithful there.
-    none_seen_in (g.F.Folder.device.contents c.run.new.folder).files c.settle.new.seen c.in-Due.ensures.remembers

@@ -9,7 +9,7 @@ use Rattle.gb_report.specs.declared.fault.Fault.{Fault}
 use Rattle.gb_report.specs.declared.fault.Fault.TheVariants as faults
 use Rattle.gb_run.specs.RunInput.{run_input}
 use Rattle.gb_run.specs.Failing.{Fails, InFull}
-use Rattle.gb_store.proofs.Machine.{at_err}
+use Rattle.gb_folder.proofs.Machine.{at_err}
 use Rattle.gb_task.proofs.Cut.{cut_at_end}
 use Rattle.gb_task.proofs.Given.{named_digests}
 use Rattle.gb_task.proofs.Recorded.{record_is}

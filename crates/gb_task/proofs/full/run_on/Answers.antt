@@ -11,13 +11,14 @@ use Rattle.gb_report.specs.declared.fault.Fault.{Fault}
 use Rattle.gb_report.specs.declared.fault.Fault.TheVariants as faults
 use Rattle.gb_run.specs.RunInput.{EndsWell, run_input}
 use Rattle.gb_run.proofs.Existed.{made_exists}
-use Rattle.gb_store.specs.Changes.{ChangesOnly}
-use Rattle.gb_store.proofs.Machine.{at_err, changes_chain}
+use Rattle.gb_folder.specs.Changes.{ChangesOnly}
+use Rattle.gb_folder.proofs.Machine.{at_err, changes_chain}
 use Rattle.gb_label.specs.Reading.{digests_in}
 use Rattle.gb_task.specs.Clearing.{HasCleared, IsCleared}
 use Rattle.gb_task.specs.Keeping.{IsUnwritten, run_now}
 use Rattle.gb_task.specs.Executing.{HasExecuted, is_of_execution, report_of, setting_with}
 use Rattle.gb_task.specs.Reading.{added_of}
+use Rattle.gb_folder.proofs.Elsewhere.{changed_there, taken_there, written_there}
 use Rattle.gb_task.proofs.Added.{all_of}
 use Rattle.gb_task.proofs.Cleared.{outputs_in_execution, record_in_execution}
 use Rattle.gb_task.proofs.Given.{as_many, none_read}
@@ -26,6 +27,8 @@ use Rattle.gb_task.proofs.Recorded.{record_exists, observed_later}
 use Rattle.gb_task.proofs.Whole.{clearing_failed, reading_failed, remembering, running_failed}
 use Rattle.gb_task.specs.Stages.{FullRun, IsOfFullRun, WritesAll, WritesGiven}
 use Rattle.gb_task.proofs.Stages.{StageLed, full_early, full_on, full_uncleared, made, unmade}
+use Rattle.gb_folder.proofs.Asked.{requests_then}
+use Rattle.gb_task.proofs.Places.{outputs_of, record_of, taken_of}
 use Rattle.gb_task.proofs.full.run_on.Goals as goal
 
 pub all_added-requires : goal.all_added-requires
@@ -58,17 +61,8 @@ returns-in_err-clear-clause-execution g c = λ faithful kinds registry_of option
     (F.device.may_leave start) c.in_err-clear.field-0.0 c.args.lines.now (F.device.failures start) (F.device.failures now) (F.device.contents start) (F.device.contents now) c.requires.no_lines refl
     (search rules) (omega arith) c.clear.ensures.requests.count
     (subst (λ (r : Result (Unit {0}) Fault). HasCleared task c.args.was_read memory (F.device.may_leave start) (F.device.failures start) (F.device.contents start) r (F.device.failures now) (F.device.contents now)) c.in_err-clear.was cleared)
-    (c.clear.ensures.changes faithful)
+    (taken_there c.clear.ensures.requests faithful)
     (λ place e. c.clear.ensures.blamed place (c.in_err-clear.was ∙ ap Err e)))
-
-pub returns-in_err-run-clause-changes : goal.returns-in_err-run-clause-changes
-returns-in_err-run-clause-changes g c = λ faithful.
-    let cleared = c.make_in_full.ensures.requests.back faithful in
-    let F = g.F.Folder in
-    let task = c.args.task.now in
-    changes_chain (is_of_execution task) (F.device.contents c.args.folder.now) (F.device.contents c.clear.new.folder) (F.device.contents c.make_in_full.new.folder)
-    (c.clear.ensures.changes cleared)
-    (outputs_in_execution task (F.device.contents c.clear.new.folder) (F.device.contents c.make_in_full.new.folder) (c.make_in_full.ensures.changes faithful))
 
 pub returns-in_err-run-clause-execution : goal.returns-in_err-run-clause-execution
 returns-in_err-run-clause-execution g c = λ faithful kinds registry_of options plan moment given at are_trees due.
@@ -87,20 +81,9 @@ returns-in_err-run-clause-execution g c = λ faithful kinds registry_of options 
     (running_failed kinds registry_of (F.device.may_leave start) options plan task c.args.was_read moment (F.device.contents start) (F.device.failures start) c.requires.buildable.not_own c.requires.separate at due
     (F.device.may_leave then) c.make_in_full.new.lines (F.device.failures then) (F.device.contents then) (F.device.contents now) c.args.inputs.trees c.in_ok-changes.changes
     c.clear.ensures.requests.tearing c.clear.ensures.requests.count is_cleared
-    are_trees (c.in_ok-changes.ensures c.args.inputs.trees (c.as_slice.ensures.value ∙ c.requires.digests) ∙ ap (added_of task.files) are_trees ∙ all_of (F.device.contents start).files task.files) (c.make_in_full.ensures.changes faithful)
-    (returns-in_err-run-clause-changes g c faithful) c.in_err-run.field-0.0 (F.device.failures now) c.make_in_full.ensures.requests.count
+    are_trees (c.in_ok-changes.ensures c.args.inputs.trees (c.as_slice.ensures.value ∙ c.requires.digests) ∙ ap (added_of task.files) are_trees ∙ all_of (F.device.contents start).files task.files) (changed_there c.make_in_full.ensures.requests faithful)
+    (changed_there (requests_then (taken_of task c.clear.ensures.requests) (outputs_of task c.make_in_full.ensures.requests)) faithful) c.in_err-run.field-0.0 (F.device.failures now) c.make_in_full.ensures.requests.count
     (λ place e. c.make_in_full.ensures.blamed place (c.in_err-run.was ∙ ap Err e)) (c.in_err-run.ensures.err faithful kinds given.agrees))
-
-pub returns-clause-changes : goal.returns-clause-changes
-returns-clause-changes g c = λ faithful.
-    let made = c.remember.ensures.requests.back faithful in
-    let F = g.F.Folder in
-    let task = c.args.task.now in
-    changes_chain (is_of_execution task) (F.device.contents c.args.folder.now) (F.device.contents c.make_in_full.new.folder) (F.device.contents c.remember.new.folder)
-    (changes_chain (is_of_execution task) (F.device.contents c.args.folder.now) (F.device.contents c.clear.new.folder) (F.device.contents c.make_in_full.new.folder)
-    (c.clear.ensures.changes (c.make_in_full.ensures.requests.back made))
-    (outputs_in_execution task (F.device.contents c.clear.new.folder) (F.device.contents c.make_in_full.new.folder) (c.make_in_full.ensures.changes made)))
-    (record_in_execution task (F.device.contents c.make_in_full.new.folder) (F.device.contents c.remember.new.folder) (c.remember.ensures.changes faithful))
 
 pub returns-clause-execution : goal.returns-clause-execution
 returns-clause-execution g c = λ faithful kinds registry_of options plan moment given at are_trees due.
@@ -118,8 +101,8 @@ returns-clause-execution g c = λ faithful kinds registry_of options plan moment
     subst (λ (r : Result (Unit {0}) Fault). HasCleared task c.args.was_read memory (F.device.may_leave start) (F.device.failures start) (F.device.contents start) r (F.device.failures then) (F.device.contents then)) c.in_ok-clear.was cleared in
     let changed : ChangesOnly (is_of_execution task) (F.device.contents start) (F.device.contents ran) =
     changes_chain (is_of_execution task) (F.device.contents start) (F.device.contents then) (F.device.contents ran)
-    (c.clear.ensures.changes then_known)
-    (outputs_in_execution task (F.device.contents then) (F.device.contents ran) (c.make_in_full.ensures.changes ran_known)) in
+    (taken_there c.clear.ensures.requests then_known)
+    (outputs_in_execution task (F.device.contents then) (F.device.contents ran) (changed_there c.make_in_full.ensures.requests ran_known)) in
     let reported = c.in_ok-changes.ensures c.args.inputs.trees (c.as_slice.ensures.value ∙ c.requires.digests) ∙ ap (added_of task.files) are_trees ∙ all_of (F.device.contents start).files task.files in
     let ended = c.in_ok-run.ensures.ok ran_known kinds given.agrees in
     let exists : c.in_ok-run.run' ≡ run_now task c.args.inputs.prints.items (F.device.contents ran).files =
@@ -129,12 +112,12 @@ returns-clause-execution g c = λ faithful kinds registry_of options plan moment
     remembering kinds registry_of (F.device.may_leave start) options plan task c.args.was_read moment (F.device.contents start) (F.device.failures start) c.requires.buildable.not_own c.requires.separate at due
     (F.device.may_leave then) c.make_in_full.new.lines (F.device.failures then) (F.device.contents then) (F.device.contents ran) c.args.inputs.trees c.in_ok-changes.changes
     c.clear.ensures.requests.tearing c.clear.ensures.requests.count is_cleared
-    are_trees reported (c.make_in_full.ensures.changes ran_known) changed
+    are_trees reported (changed_there c.make_in_full.ensures.requests ran_known) changed
     ended c.args.inputs.prints.items (F.device.failures ran) (F.device.failures now) (F.device.contents now)
     (c.requires.digests ∙ ap digests_in are_trees)
     c.make_in_full.ensures.requests.count c.remember.ensures.requests.count
-    (changes_chain (is_of_execution task) (F.device.contents start) (F.device.contents ran) (F.device.contents now) changed (record_in_execution task (F.device.contents ran) (F.device.contents now) (c.remember.ensures.changes faithful)))
-    (ap (λ (folder : Contents). folder.files) (outside_same task.path (F.device.contents ran) (F.device.contents now) (c.remember.ensures.changes faithful)))
+    (changes_chain (is_of_execution task) (F.device.contents start) (F.device.contents ran) (F.device.contents now) changed (record_in_execution task (F.device.contents ran) (F.device.contents now) (written_there _ c.remember.ensures.requests faithful)))
+    (ap (λ (folder : Contents). folder.files) (outside_same task.path (F.device.contents ran) (F.device.contents now) (written_there _ c.remember.ensures.requests faithful)))
     c.remember.result
     (subst (λ (run : Record). IfErr c.remember.result (IsUnwritten task.path (Some (record_text task.path run)) (F.device.contents ran).files (F.device.failures ran) (F.device.failures now))) exists (c.remember.ensures.err faithful))
     c.remember.ensures.outputs
@@ -183,3 +166,14 @@ returns-clause-ran g c =
     full_on F.device meanings rows task trees c.args.was_read c.args.folder.now c.clear.new.folder c.remember.new.folder c.make_in_full.new.lines c.remember.result c.in_ok-clear.ensures.calls
     (made F.device task (WritesAll meanings rows task trees) (IsOfFullRun meanings rows task trees) c.clear.new.folder c.make_in_full.new.folder c.remember.new.folder c.make_in_full.new.lines led.1 c.remember.result c.in_ok-run.run'
     (led.0, led.2, subst (λ (changes : List Changes). WritesGiven meanings rows task trees changes led.0 c.make_in_full.new.lines led.1) added led.3) led.4 c.in_ok-run.ensures.made c.remember.ensures.calls)
+
+pub returns-in_err-clear-clause-requests : goal.returns-in_err-clear-clause-requests
+returns-in_err-clear-clause-requests g c = taken_of c.args.task.now c.clear.ensures.requests
+
+pub returns-in_err-run-clause-requests : goal.returns-in_err-run-clause-requests
+returns-in_err-run-clause-requests g c = requests_then (taken_of c.args.task.now c.clear.ensures.requests) (outputs_of c.args.task.now c.make_in_full.ensures.requests)
+
+pub returns-clause-requests : goal.returns-clause-requests
+returns-clause-requests g c =
+    requests_then (requests_then (taken_of c.args.task.now c.clear.ensures.requests) (outputs_of c.args.task.now c.make_in_full.ensures.requests))
+    (record_of c.args.task.now _ c.remember.ensures.requests)

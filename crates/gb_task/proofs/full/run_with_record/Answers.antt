@@ -5,12 +5,12 @@ use Rattle.gb_meaning.specs.Label.{Moment}
 use Rattle.gb_meaning.specs.Tree.{trees_of}
 use Rattle.gb_plan.specs.Task.{is_output_of}
 use Rattle.gb_report.specs.declared.fault.Fault.{Fault}
-use Rattle.gb_store.proofs.Machine.{at_err}
+use Rattle.gb_folder.proofs.Machine.{at_err}
 use Rattle.gb_task.specs.Executing.{HasExecuted, report_of, setting_with}
 use Rattle.gb_task.proofs.Later.{comes_later, turned_before}
 use Rattle.gb_task.proofs.Recorded.{assumed_later}
 use Rattle.gb_task.proofs.Whole.{reading_failed}
-use Rattle.gb_folder.proofs.Asked.{requests_nothing, requests_then}
+use Rattle.gb_folder.proofs.Asked.{requests_nothing, requests_then, requests_reading}
 use Rattle.gb_label.proofs.ReadingAnswering.{inputs_longer}
 use Rattle.gb_task.proofs.full.run_with_record.Goals as goal
 
@@ -29,7 +29,7 @@ returns-in_err-inputs-clause-execution g c = λ faithful kinds registry_of optio
 
 pub returns-clause-execution : goal.returns-clause-execution
 returns-clause-execution g c = λ faithful kinds registry_of options plan moment given at read due.
-    let completed = c.run_on.ensures.back faithful in
+    let completed = c.run_on.ensures.requests.back faithful in
     let F = g.F.Folder in
     let task = c.args.task.now in
     let start = c.args.folder.now in
@@ -39,7 +39,7 @@ returns-clause-execution g c = λ faithful kinds registry_of options plan moment
     let later : Moment = record { world = moment.world; outcomes = moment.outcomes; failures = F.device.failures then } in
     let came = comes_later task c.args.was_read (F.device.contents start) (F.device.failures start) moment (F.device.contents then) (F.device.failures then) same at in
     turned_before kinds registry_of (F.device.may_leave start) (F.device.may_leave then) c.complete_inputs.ensures.reads.requests.tearing options plan task moment (F.device.failures then)
-    (subst (λ (n : ℕ). n ≤ F.device.failures then) (sym at.failures) c.complete_inputs.ensures.reads.requests.count) (report_of task c.run_on.result c.run_on.new.lines) (F.device.contents start) (F.device.failures now) (F.device.contents now) c.run_on.ensures.count
+    (subst (λ (n : ℕ). n ≤ F.device.failures then) (sym at.failures) c.complete_inputs.ensures.reads.requests.count) (report_of task c.run_on.result c.run_on.new.lines) (F.device.contents start) (F.device.failures now) (F.device.contents now) c.run_on.ensures.requests.count
     (subst (λ (folder : Contents). HasExecuted (setting_with kinds registry_of (F.device.may_leave then)) options plan task later (report_of task c.run_on.result c.run_on.new.lines) folder (F.device.failures now) (F.device.contents now)) same
     (c.run_on.ensures.execution faithful kinds registry_of options plan later (assumed_later _ _ c.complete_inputs.ensures.reads.requests.tearing given) came
     (c.in_ok-inputs.ensures.trees completed read ∙ ap (λ (folder : Contents). trees_of task folder.files) (sym same)) due))
@@ -72,3 +72,9 @@ returns-clause-ran g c = λ first before inputs.
         ran.2,
       ),
     )
+
+pub returns-in_err-inputs-clause-requests : goal.returns-in_err-inputs-clause-requests
+returns-in_err-inputs-clause-requests g c = requests_reading c.complete_inputs.ensures.reads.requests
+
+pub returns-clause-requests : goal.returns-clause-requests
+returns-clause-requests g c = requests_then (requests_reading c.complete_inputs.ensures.reads.requests) c.run_on.ensures.requests

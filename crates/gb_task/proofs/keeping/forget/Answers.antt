@@ -1,9 +1,5 @@
-use Rattle.std.proofs.Common.{Err, None, Ok, subst, sym}
-use Rattle.gb_history.specs.Places.{record_place}
+use Rattle.std.proofs.Common.{Err, Ok, subst, sym}
 use Rattle.gb_records.proofs.Holding.{not_there}
-use Rattle.gb_store.specs.Changes.{is_at}
-use Rattle.gb_store.proofs.Machine.{changes_without}
-use Rattle.gb_task.proofs.Unwritten.{at_itself, changes_unwritten}
 use Rattle.gb_report.specs.declared.fault.Fault.{Fault}
 use Rattle.gb_task.specs.Stages.{DeletesRecord}
 use Rattle.gb_task.proofs.Stages.{QuietLed, deleted, deleted_none}
@@ -12,16 +8,6 @@ use Rattle.gb_task.proofs.keeping.forget.Goals as goal
 pub returns-then-not-was_read-clause-exists : goal.returns-then-not-was_read-clause-exists
 returns-then-not-was_read-clause-exists g c = λ faithful observed memory existed none.
     not_there (g.F.Folder.device.contents c.args.folder.now).files memory c.args.path.now c.as_str-path.ensures.path existed (none c.if-not-was_read.true)
-
-pub returns-in-Ok-clause-changes : goal.returns-in-Ok-clause-changes
-returns-in-Ok-clause-changes g c = λ faithful.
-    let place = record_place c.args.path.now in
-    changes_without (is_at place) (g.F.Folder.device.contents c.args.folder.now) (g.F.Folder.device.contents c.delete_record.new.folder) place (c.in-Ok.ensures.out faithful) (at_itself place)
-
-pub returns-in-Err-clause-changes : goal.returns-in-Err-clause-changes
-returns-in-Err-clause-changes g c = λ faithful.
-    let F = g.F.Folder in
-    changes_unwritten (F.device.may_leave c.args.folder.now) c.args.path.now None _ _ (F.device.contents c.args.folder.now) (F.device.contents c.delete_record.new.folder) c.in-Err.fault (c.in-Err.ensures.err faithful)
 
 pub returns-then-not-was_read-clause-calls : goal.returns-then-not-was_read-clause-calls
 returns-then-not-was_read-clause-calls g c = deleted_none g.F.Folder.device c.args.path.now c.args.was_read c.args.folder.now c.if-not-was_read.true

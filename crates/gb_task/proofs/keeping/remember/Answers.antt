@@ -1,35 +1,19 @@
 use Rattle.std.proofs.Common.{◌≡◌, false, true, Ok, Some, Err, rules, sym, subst}
 use Rattle.gb_folder.specs.Files.{is_empty}
-use Rattle.gb_history.specs.Places.{record_place}
 use Rattle.gb_history.specs.Text.{record_text}
 use Rattle.gb_report.specs.declared.fault.Fault.{Fault}
-use Rattle.gb_store.specs.Changes.{is_at}
-use Rattle.gb_store.proofs.Machine.{changes_with}
 use Rattle.gb_task.specs.Keeping.{IsRemembered, IsUnwritten}
 use Rattle.gb_task.proofs.Recorded.{with_outputs_exists}
-use Rattle.gb_task.proofs.Unwritten.{at_itself, changes_unwritten, remembered_reported, why_unwritten}
+use Rattle.gb_task.proofs.Unwritten.{remembered_reported, why_unwritten}
 use Rattle.gb_task.specs.Stages.{StoresRecord}
 use Rattle.gb_task.proofs.Stages.{QuietLed, stored, stored_none}
 use Rattle.gb_task.proofs.keeping.remember.Goals as goal
-
-pub returns-in-Ok-clause-changes : goal.returns-in-Ok-clause-changes
-returns-in-Ok-clause-changes g c = λ faithful.
-    let F = g.F.Folder in
-    let place = record_place c.args.task.now.path in
-    changes_with (is_at place) (F.device.contents c.args.folder.now) (F.device.contents c.store_record.new.folder) place (record_text c.args.task.now.path c.args.run.now) (c.in-Ok.ensures.written faithful) (at_itself place)
 
 pub returns-in-Ok-clause-exists : goal.returns-in-Ok-clause-exists
 returns-in-Ok-clause-exists g c = λ faithful observed memory entry existed of.
     let task = c.args.task.now in
     let some : is_empty task.outputs ≡ false = search rules in
     with_outputs_exists task entry memory (g.F.Folder.device.contents c.store_record.new.folder).files some (c.in-Ok.ensures.exists faithful observed memory entry existed of)
-
-pub returns-in-Err-clause-changes : goal.returns-in-Err-clause-changes
-returns-in-Err-clause-changes g c = λ faithful.
-    let F = g.F.Folder in
-    let path = c.args.task.now.path in
-    changes_unwritten (F.device.may_leave c.args.folder.now) path (Some (record_text path c.args.run.now)) _ _ (F.device.contents c.args.folder.now) (F.device.contents c.store_record.new.folder)
-    c.in-Err.unwritten (c.in-Err.ensures.err faithful)
 
 pub returns-in-Err-clause-err : goal.returns-in-Err-clause-err
 returns-in-Err-clause-err g c = λ faithful.

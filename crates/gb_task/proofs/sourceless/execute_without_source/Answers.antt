@@ -1,5 +1,6 @@
 use Rattle.std.proofs.Common.{◌≡◌, not, arith, rules, sym, subst}
 use Rattle.gb_folder.specs.Files.{is_empty}
+use Rattle.gb_folder.proofs.Elsewhere.{taken_there}
 use Rattle.gb_meaning.specs.Memory.{recalled}
 use Rattle.gb_report.specs.declared.report.TaskReport.{TaskReport}
 use Rattle.gb_task.specs.Executing.{HasExecuted, setting_with}
@@ -22,7 +23,7 @@ returns-clause-execution g c = λ faithful kinds registry_of options plan moment
     subst (λ (report : TaskReport). HasExecuted (setting_with kinds registry_of (F.device.may_leave start)) options plan task moment report (F.device.contents start) (F.device.failures now) (F.device.contents now))
     (sym (same_report _ _ _ _ _ _ _ _ c.requires.path c.outcome_of.ensures acts c.new.ensures))
     (cleared_execution kinds registry_of (F.device.may_leave start) options plan task c.args.was_read moment (F.device.contents start) (F.device.failures start) c.requires.not_own at case
-    (F.device.failures start) (F.device.failures now) (F.device.contents now) (omega arith) allowed.requests.count (allowed.changes faithful) c.clear-cleared.result allowed.blamed
+    (F.device.failures start) (F.device.failures now) (F.device.contents now) (omega arith) allowed.requests.count (taken_there allowed.requests faithful) c.clear-cleared.result allowed.blamed
     (allowed.cleared faithful observed moment.world.memory at.records (none_read (recalled moment.world.memory task.path) c.args.was_read at.read)))
 
 pub returns-clause-calls : goal.returns-clause-calls

@@ -1,9 +1,6 @@
 use Rattle.std.proofs.Common.{◌++◌, List, ap, sym, subst, ◌∙◌}
-use Rattle.std.specs.List.{AllByRecursion}
 use Rattle.gb_folder.proofs.Asked.{requests_nothing, requests_then}
-use Rattle.gb_folder.specs.Files.{Contents}
 use Rattle.gb_tree.specs.Answered.{WasObserved, WereObserved}
-use Rattle.gb_tree.specs.Reading.{IsObservedIn}
 use Rattle.gb_tree.specs.Waiting.{file_in, waiting_files}
 use Rattle.gb_tree.specs.declared.kept.ScannedFile.{ScannedFile}
 use Rattle.gb_tree.proofs.Answering.{all_observed_longer, observed_longer}
@@ -17,15 +14,12 @@ loop-place-init g c = record {
   back = c.few_at-places.ensures.reads.requests.back;
   same = c.few_at-places.ensures.reads.same;
   answered = λ first earlier were. all_observed_longer (requests_nothing first) c.few_at-places.ensures.reads.requests (c.args.files.now.items ++ waiting_files c.args.waiting) were;
-  each = λ faithful were. were;
 }
 
 pub loop-place-preserved : goal.loop-place-preserved
 loop-place-preserved g c =
     let back = c.scan_place.ensures.reads.requests.back in
     let F = g.F.Folder in
-    let start = c.args.folder.now in
-    let files = (F.device.contents start).files in
     let so_far = c.loop-place.invariant in
     let now = c.scan_place.new.folder in
     let read = c.loop-place.files.items ++ waiting_files c.loop-place.waiting in
@@ -44,11 +38,4 @@ loop-place-preserved g c =
             | in-None w ↦ subst (λ (those : List ScannedFile). WereObserved F.device first now those)
                 (sym (ap (λ files. files.items ++ waiting_files then.waiting) w.files-is ∙ ap (λ those. c.loop-place.files.items ++ waiting_files those) w.waiting-is)) before
           ];
-      each = λ faithful were. elim then.branch [
-        | in-Some+in_ok-waiting-in-Some w ↦ each_more (IsObservedIn files) read after (file_in w.in-Some.found)
-            (ap (λ files. files.items ++ waiting_files then.waiting) w.files-is ∙ ap (λ those. w.add.new.observed.items ++ waiting_files those) w.waiting-is ∙ w.in_ok-waiting-in-Some.ensures)
-            (so_far.each (back faithful) were) (subst (λ (contents : Contents). IsObservedIn contents.files (file_in w.in-Some.found)) (so_far.same (back faithful)) (w.in-Some.ensures.observed faithful))
-        | in-None w ↦ subst (λ (those : List ScannedFile). AllByRecursion (IsObservedIn files) those)
-            (sym (ap (λ files. files.items ++ waiting_files then.waiting) w.files-is ∙ ap (λ those. c.loop-place.files.items ++ waiting_files those) w.waiting-is)) (so_far.each (back faithful) were)
-      ];
     }

@@ -1,8 +1,5 @@
-use Rattle.std.proofs.Common.{◌++◌, sym, subst, ◌∙◌}
-use Rattle.std.specs.List.{AllByRecursion}
+use Rattle.std.proofs.Common.{◌++◌, ◌∙◌}
 use Rattle.gb_folder.proofs.Asked.{requests_then}
-use Rattle.gb_folder.specs.Files.{Contents}
-use Rattle.gb_tree.specs.Reading.{IsObservedIn}
 use Rattle.gb_tree.specs.Waiting.{waiting_files}
 use Rattle.gb_tree.proofs.ahead.scan_roots.Goals as goal
 
@@ -18,8 +15,4 @@ loop-root-preserved g c =
       back = λ faithful. so_far.back (back faithful);
       same = λ faithful. c.scan_root.ensures.reads.same faithful ∙ so_far.same (back faithful);
       answered = c.in_ok-waiting.ensures.answered c.args.folder.now so_far.requests so_far.answered;
-      each = λ faithful.
-          let same = so_far.same (back faithful) in
-          subst (λ (contents : Contents). AllByRecursion (IsObservedIn contents.files) after) same
-          (c.in_ok-waiting.ensures.observed faithful (subst (λ (contents : Contents). AllByRecursion (IsObservedIn contents.files) read) (sym same) (so_far.each (back faithful))));
     }

@@ -9,6 +9,7 @@ use Rattle.gb_folder.proofs.Asked.{requests_then}
 use Rattle.gb_tree.proofs.Blame.{at_entry, blamed_before}
 use Rattle.gb_tree.proofs.Loops.{step_here}
 use Rattle.gb_tree.proofs.InOrder.{file_more}
+use Rattle.gb_tree.proofs.Known.{read_bytes, read_small}
 use Rattle.gb_tree.proofs.reading.read_all.Goals as goal
 
 pub loop-path-preserved : goal.loop-path-preserved
@@ -29,11 +30,11 @@ loop-path-preserved g c =
       read = λ faithful.
           c.in_ok-insert.ensures.ok
           ∙ ap (λ path. put byte_order path c.in_ok-bytes.bytes old.files) c.in_ok-copy.ensures
-          ∙ ap (λ bytes. put byte_order e.0 bytes old.files) (c.in_ok-bytes.ensures.read faithful ∙ ap (λ now. bytes_at now.files e.1) (old.invariant.same (back faithful)))
+          ∙ ap (λ bytes. put byte_order e.0 bytes old.files) (read_bytes c.read_file.ensures.reads faithful e.1 c.in_ok-bytes.bytes c.in_ok-bytes.ensures.answered ∙ ap (λ now. bytes_at now.files e.1) (old.invariant.same (back faithful)))
           ∙ ap (put byte_order e.0 (bytes_at files e.1)) (old.invariant.read (back faithful))
           ∙ file_more files entries i e within is c.requires;
       large = λ faithful.
-          let small = ap (λ now. is_large now.files e.1) (sym (old.invariant.same (back faithful))) ∙ c.in_ok-bytes.ensures.small faithful in
+          let small = ap (λ now. is_large now.files e.1) (sym (old.invariant.same (back faithful))) ∙ read_small c.read_file.ensures.reads faithful e.1 c.in_ok-bytes.bytes c.in_ok-bytes.ensures.answered in
           sym (step_here (λ es. first_of (too_large files es)) entries i e within is ∙ ap (λ b. first_of (map (λ (f : List ℕ × List ℕ). faults.TooLarge f.1) (cond b (e ∷ filter (λ f. is_large files f.1) (drop (i + 1) entries)) (filter (λ f. is_large files f.1) (drop (i + 1) entries))))) small)
           ∙ old.invariant.large (back faithful);
     }

@@ -7,6 +7,7 @@ use Rattle.gb_tree.specs.Waiting.{file_in}
 use Rattle.gb_tree.specs.declared.kept.ScannedFile.{ScannedFile}
 use Rattle.gb_tree.proofs.Again.{ok_as}
 use Rattle.gb_tree.proofs.Answering.{observed_longer}
+use Rattle.gb_tree.proofs.Known.{observed_known}
 use Rattle.gb_tree.proofs.Remembering.{seen_observed, seen_observed_in}
 use Rattle.gb_tree.proofs.scanning.find_file.Goals as goal
 
@@ -33,3 +34,7 @@ pub returns-in-None-clause-answered : goal.returns-in-None-clause-answered
 returns-in-None-clause-answered g c = λ first before known.
     ok_as c.scan_file.result c.scan_file.ensures.answered
     (λ found was. observed_longer before (requests_nothing c.scan_file.new.folder) (file_in found) was)
+
+pub returns-in-None-clause-observed : goal.returns-in-None-clause-observed
+returns-in-None-clause-observed g c = λ faithful known.
+    ok_as c.scan_file.result c.scan_file.ensures.answered (λ found was. observed_known c.scan_file.ensures.reads faithful (file_in found) was)

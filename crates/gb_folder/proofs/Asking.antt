@@ -5,8 +5,8 @@ use Rattle.std.proofs.Common.{refl}
 use Rattle.gb_folder.specs.Calls.{Requests, taken_at, takes_at}
 use Rattle.gb_folder.specs.Files.{Place}
 use Rattle.gb_folder.proofs.Asked.{requests_taken, take_at}
-use Rattle.gb_store.specs.Changes.{is_among, is_at}
-use Rattle.gb_store.proofs.Loops.{any_here}
+use Rattle.gb_folder.specs.Changes.{is_among, is_at}
+use Rattle.gb_folder.proofs.Loops.{any_here}
 use Rattle.gb_folder.specs.Calls.{Device}
 
 -- the file at one of these places is removed

@@ -13,8 +13,8 @@ use Rattle.gb_folder.proofs.EachOf.{OneLed}
 use Rattle.gb_folder.proofs.Leading.{leads_once}
 use Rattle.gb_report.specs.declared.fault.Fault.{Fault}
 use Rattle.gb_report.specs.declared.fault.Fault.TheVariants as faults
-use Rattle.gb_store.specs.Faults.{reported_at}
-use Rattle.gb_store.specs.Removals.{IsListed, Removal, WasRemoved, unless_absent}
+use Rattle.gb_folder.specs.Faults.{reported_at}
+use Rattle.gb_folder.specs.Removals.{IsListed, Removal, WasRemoved, unless_absent}
 
 -- ---- a listing
 

@@ -6,14 +6,14 @@ use Rattle.gb_folder.specs.Files.{Place}
 use Rattle.gb_folder.proofs.Asked.{requests_then}
 use Rattle.gb_folder.proofs.EachOf.{EachLed, each_more, each_short}
 use Rattle.gb_report.specs.declared.fault.Fault.{Fault}
-use Rattle.gb_store.specs.Changes.{IsCutShort, is_at, without_all}
-use Rattle.gb_store.specs.Removals.{Removal, WasRemoved}
-use Rattle.gb_store.proofs.Called.{removal_led}
-use Rattle.gb_store.proofs.Machine.{at_err, changes_chain, handed_on}
-use Rattle.gb_store.proofs.Loops.{all_at, any_here}
-use Rattle.gb_store.proofs.Asking.{taken_among}
-use Rattle.gb_store.proofs.Removing.{changes_so_far, cut_at, without_more}
-use Rattle.gb_store.proofs.removal.remove_all.Goals as goal
+use Rattle.gb_folder.specs.Changes.{IsCutShort, is_at, without_all}
+use Rattle.gb_folder.specs.Removals.{Removal, WasRemoved}
+use Rattle.gb_folder.proofs.Called.{removal_led}
+use Rattle.gb_folder.proofs.Machine.{at_err, handed_on}
+use Rattle.gb_folder.proofs.Loops.{any_here}
+use Rattle.gb_folder.proofs.Asking.{taken_among}
+use Rattle.gb_folder.proofs.Removing.{cut_at, without_more}
+use Rattle.gb_folder.proofs.removal.remove_all.Goals as goal
 
 pub loop-place-preserved : goal.loop-place-preserved
 loop-place-preserved g c =
@@ -46,16 +46,8 @@ returns-in_err-remove_at-clause-cut g c = λ faithful.
     at_err (λ r. IfErr r IsFault) c.from_residual.result p.0 c.in_err-remove_at.field-0.0 p.1 p.2
     (cut_at _ _ _ _ _ c.args.places.now c.loop-place.place-index c.place-item.result _ c.loop-place-test.true c.place-item.is c.loop-place.invariant.requests.tearing (c.loop-place.invariant.removed (c.remove_at.ensures.requests.back faithful)) (c.in_err-remove_at.ensures.hindered faithful))
 
-pub returns-in_err-remove_at-clause-changes : goal.returns-in_err-remove_at-clause-changes
-returns-in_err-remove_at-clause-changes g c = λ faithful test all.
-    let here = all_at (λ place. test place ≡ true) c.args.places.now c.loop-place.place-index c.place-item.result c.loop-place-test.true c.place-item.is all in
-    changes_chain test _ _ _ (changes_so_far test c.args.places.now c.loop-place.place-index _ _ all (c.loop-place.invariant.removed (c.remove_at.ensures.requests.back faithful))) (c.remove_at.ensures.changes faithful test here)
-
 pub returns-clause-ok : goal.returns-clause-ok
 returns-clause-ok g c = λ faithful. c.loop-place.invariant.removed faithful ∙ ap (without_all (g.F.Folder.device.contents c.args.folder.now)) (take_all c.loop-place.place-index c.args.places.now c.loop-place-test.false)
-
-pub returns-clause-changes : goal.returns-clause-changes
-returns-clause-changes g c = λ faithful test all. changes_so_far test c.args.places.now c.loop-place.place-index _ _ all (c.loop-place.invariant.removed faithful)
 
 pub returns-in_err-remove_at-clause-calls : goal.returns-in_err-remove_at-clause-calls
 returns-in_err-remove_at-clause-calls g c =

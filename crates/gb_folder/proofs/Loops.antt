@@ -20,9 +20,3 @@ pub any_here : {X : Type 0} (t : X → Bool) (xs : List X) (i : ℕ) (x : X) →
 any_here t [] i x within is h = absurd (omega (arith, within))
 any_here t (y ∷ ys) zero x within is h = ap (λ z. t z || list_any t ys) (sym is) ∙ ap (λ b. b || list_any t ys) h
 any_here t (y ∷ ys) (suc i) x within is h = ap (λ b. t y || b) (any_here t ys i x (omega (arith, within)) is h) ∙ or_true (t y)
-
--- a property of all elements holds of this one
-pub all_at : {X : Type 0} (P : X → Type 0) (xs : List X) (i : ℕ) (x : X) → i < length xs → x ≡ get_or xs i x → AllByRecursion P xs → P x
-all_at P [] i x within is all = absurd (omega (arith, within))
-all_at P (y ∷ ys) zero x within is all = subst P (sym is) all.0
-all_at P (y ∷ ys) (suc i) x within is all = all_at P ys i x (omega (arith, within)) is all.1

@@ -1,9 +1,9 @@
 //! The faults of a folder, as a build reports them.
 ghost use Rattle.std.specs.Prelude.{◌≡◌, ◌⊎◌};
-ghost use Rattle.gb_store.specs.Faults.{reported_at};
+ghost use Rattle.gb_folder.specs.Faults.{reported_at};
 
+use crate::folder::FolderFault;
 use gb_core::place::Place;
-use gb_folder::folder::FolderFault;
 use gb_report::fault::Fault;
 
 /// The fault at a place; an out-of-memory fault instead, if there is no memory to name the place.

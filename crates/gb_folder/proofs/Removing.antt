@@ -1,16 +1,14 @@
 -- Removals, one after another, and where they are cut short.
-use Rattle.std.proofs.Common.{◌≡◌, ◌≢◌, ◌<◌, ◌+◌, inl, inr, ℕ, zero, suc, Bool, true, List, [], ◌∷◌, ◌++◌, Option, None, fold, take, drop, length, get_or, refl, sym, ap, subst, ◌∙◌}
+use Rattle.std.proofs.Common.{◌≡◌, ◌≢◌, ◌<◌, ◌+◌, inl, inr, ℕ, List, [], ◌∷◌, ◌++◌, Option, None, fold, take, drop, length, get_or, refl, sym, ap, subst, ◌∙◌}
 use Rattle.std.proofs.lemmas.List.{take-append-drop, take_more}
-use Rattle.std.specs.List.{AllByRecursion}
 use Rattle.gb_folder.specs.Files.{Place, Bytes, Contents, Files, SameTearing, Tearing, without, IsTorn}
 use Rattle.gb_folder.specs.declared.folder.FolderFault.{FolderFault}
 use Rattle.gb_folder.specs.declared.folder.FolderFault.TheVariants as folders
 use Rattle.gb_report.specs.declared.fault.Fault.{Fault}
 use Rattle.gb_report.specs.declared.fault.Fault.TheVariants as faults
-use Rattle.gb_store.specs.Changes.{ChangesOnly, IsCutShort, IsHindered, without_all}
-use Rattle.gb_store.specs.Faults.{reported_at}
-use Rattle.gb_store.proofs.Loops.{step_here}
-use Rattle.gb_store.proofs.Machine.{changes_chain, changes_none, changes_without}
+use Rattle.gb_folder.specs.Changes.{IsCutShort, IsHindered, without_all}
+use Rattle.gb_folder.specs.Faults.{reported_at}
+use Rattle.gb_folder.proofs.Loops.{step_here}
 
 -- the place of a device fault is the one at which it occurred
 pub reported_place : (place at : Place) (fault : FolderFault) → reported_at place fault ≡ faults.Device at → place ≡ at
@@ -60,20 +58,3 @@ cut_at first second old now new places i place fault within is same before hinde
       all = sym (take-append-drop i places) ∙ step_here (λ rest. take i places ++ rest) places i place within is;
       hindered = hindered_before first second place None (without_all old (take i places)) new fault same (subst (λ folder. IsHindered second place None folder fault new) before hindered);
     }
-
-all_taken : (P : Place → Type 0) (places : List Place) (i : ℕ) → AllByRecursion P places → AllByRecursion P (take i places)
-all_taken P [] zero all = tt
-all_taken P [] (suc i) all = tt
-all_taken P (place ∷ places) zero all = tt
-all_taken P (place ∷ places) (suc i) all = (all.0, all_taken P places i all.1)
-
--- the folder differs only where files were removed
-pub changes_without_all : (test : Place → Bool) (places : List Place) (old : Contents) → AllByRecursion (λ place. test place ≡ true) places → ChangesOnly test old (without_all old places)
-changes_without_all test [] old all = changes_none test old (without_all old []) refl
-changes_without_all test (place ∷ places) old all =
-    changes_chain test old (without_all old (place ∷ [])) (without_all old (place ∷ places))
-    (changes_without test old (without_all old (place ∷ [])) place refl all.0)
-    (changes_without_all test places (without_all old (place ∷ [])) all.1)
-
-pub changes_so_far : (test : Place → Bool) (places : List Place) (i : ℕ) (old now : Contents) → AllByRecursion (λ place. test place ≡ true) places → now ≡ without_all old (take i places) → ChangesOnly test old now
-changes_so_far test places i old now all is = subst (ChangesOnly test old) (sym is) (changes_without_all test (take i places) old (all_taken (λ place. test place ≡ true) places i all))

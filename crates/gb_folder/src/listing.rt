@@ -4,14 +4,14 @@ ghost use Rattle.std.specs.List.{AllPass};
 ghost use Rattle.gb_core.specs.Place.{is_under};
 ghost use Rattle.gb_folder.specs.Calls.{OnlyReads};
 ghost use Rattle.gb_folder.specs.Files.{is_special_under, places_under};
-ghost use Rattle.gb_store.specs.Changes.{is_at};
-ghost use Rattle.gb_store.specs.Faults.{Blames, BlamesOnly, IsOfMachine};
-ghost use Rattle.gb_store.specs.Removals.{WasListed};
+ghost use Rattle.gb_folder.specs.Changes.{is_at};
+ghost use Rattle.gb_folder.specs.Faults.{Blames, BlamesOnly, IsOfMachine};
+ghost use Rattle.gb_folder.specs.Removals.{WasListed};
 
+use crate::calls::list;
 use crate::faults::fault_at;
+use crate::folder::Folder;
 use gb_core::place::Place;
-use gb_folder::calls::list;
-use gb_folder::folder::Folder;
 use gb_report::fault::Fault;
 use std::alloc::Global;
 

@@ -1,9 +1,9 @@
 use Rattle.std.proofs.Common.{◌≡◌, [], Ok, take}
 use Rattle.gb_folder.proofs.EachOf.{EachLed}
 use Rattle.gb_folder.specs.Calls.{Requests, takes_at}
-use Rattle.gb_store.specs.Changes.{is_among, without_all}
-use Rattle.gb_store.specs.Removals.{Removal}
-use Rattle.gb_store.proofs.removal.remove_all.Given as goal
+use Rattle.gb_folder.specs.Changes.{is_among, without_all}
+use Rattle.gb_folder.specs.Removals.{Removal}
+use Rattle.gb_folder.proofs.removal.remove_all.Given as goal
 
 abbrev pub invariant-loop-place : goal.invariant-loop-place
 invariant-loop-place g l =

@@ -1,16 +1,15 @@
 //! Removing files.
-ghost use Rattle.std.specs.Prelude.{◌≡◌, ◌≢◌, ◌⊎◌, Bool, List, ℕ, [], ◌∷◌, None, true, IfErr, OnOk};
-ghost use Rattle.std.specs.List.{AllByRecursion};
+ghost use Rattle.std.specs.Prelude.{◌≡◌, ◌≢◌, ◌⊎◌, List, [], ◌∷◌, None, IfErr, OnOk};
 ghost use Rattle.gb_folder.specs.Calls.{Requests, Call, taken_at, takes_at};
 ghost use Rattle.gb_folder.specs.Device.{Leads};
-ghost use Rattle.gb_store.specs.Changes.{ChangesOnly, IsCutShort, IsHindered, is_among, is_at, without_all};
-ghost use Rattle.gb_store.specs.Faults.{Blames, BlamesOnly, IsOfMachine};
-ghost use Rattle.gb_store.specs.Removals.{Removals, WasRemoved, unless_absent};
+ghost use Rattle.gb_folder.specs.Changes.{IsCutShort, IsHindered, is_among, is_at, without_all};
+ghost use Rattle.gb_folder.specs.Faults.{Blames, BlamesOnly, IsOfMachine};
+ghost use Rattle.gb_folder.specs.Removals.{Removals, WasRemoved, unless_absent};
 
+use crate::calls::remove;
 use crate::faults::fault_of;
+use crate::folder::{Folder, FolderFault};
 use gb_core::place::Place;
-use gb_folder::calls::remove;
-use gb_folder::folder::{Folder, FolderFault};
 use gb_report::fault::Fault;
 
 /// Removes the files at these places, one after another. A place without a file counts as done.
@@ -29,9 +28,6 @@ pub fn remove_all<F: Folder>(folder: &mut F, places: &[Place]) -> Result<(), Fau
     ensures cut { F.device.faithful folder.new → IfErr result
         (λ fault. IsCutShort (F.device.may_leave folder.old) places.now (F.device.contents folder.old)
         fault (F.device.contents folder.new)) }
-    ensures changes { F.device.faithful folder.new → (test : List ℕ → Bool)
-        → AllByRecursion (λ place. test place ≡ true) places.now
-        → ChangesOnly test (F.device.contents folder.old) (F.device.contents folder.new) }
 {
     for place in places.iter() {
         remove_at(folder, place)?;
@@ -55,8 +51,6 @@ pub fn remove_at<F: Folder>(folder: &mut F, place: &Place) -> Result<(), Fault>
     ensures hindered { F.device.faithful folder.new → IfErr result
         (λ fault. IsHindered (F.device.may_leave folder.old) place.now None (F.device.contents folder.old)
         fault (F.device.contents folder.new)) }
-    ensures changes { F.device.faithful folder.new → (test : List ℕ → Bool) → test place.now ≡ true
-        → ChangesOnly test (F.device.contents folder.old) (F.device.contents folder.new) }
 {
     let at = place.copy()?;
     match remove(folder, place) {

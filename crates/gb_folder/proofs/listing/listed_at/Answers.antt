@@ -1,6 +1,6 @@
 use Rattle.gb_folder.specs.Calls.{answered}
-use Rattle.gb_store.proofs.Called.{listed_badly, listed_well}
-use Rattle.gb_store.proofs.listing.listed_at.Goals as goal
+use Rattle.gb_folder.proofs.Called.{listed_badly, listed_well}
+use Rattle.gb_folder.proofs.listing.listed_at.Goals as goal
 
 pub returns-in-Ok-clause-call : goal.returns-in-Ok-clause-call
 returns-in-Ok-clause-call g c =

@@ -4,23 +4,20 @@ use Rattle.std.proofs.lemmas.Result.{on_ok_weaker, IfErr-weaker, IfErr-at_err}
 use Rattle.gb_folder.specs.declared.folder.FolderFault.{FolderFault}
 use Rattle.gb_folder.specs.declared.folder.FolderFault.TheVariants as folders
 use Rattle.gb_folder.specs.Files.{Contents, IsFolder, Place, file_at}
-use Rattle.gb_store.specs.Changes.{IsHindered, without_all}
-use Rattle.gb_store.specs.Faults.{reported_at}
-use Rattle.gb_store.specs.Removals.{removal_ending, unless_absent}
-use Rattle.gb_store.proofs.Called.{at_ok, at_place}
-use Rattle.gb_store.proofs.Removing.{hindered_by, reported_place}
-use Rattle.gb_store.proofs.Emptied.{without_none, blocked_none}
-use Rattle.gb_store.proofs.Machine.{blames_device, changes_without, changes_none, changes_left, is_device, of_machine}
-use Rattle.gb_store.proofs.removal.remove_at.Goals as goal
+use Rattle.gb_folder.specs.Changes.{IsHindered, without_all}
+use Rattle.gb_folder.specs.Faults.{reported_at}
+use Rattle.gb_folder.specs.Removals.{removal_ending, unless_absent}
+use Rattle.gb_folder.proofs.Called.{at_ok, at_place}
+use Rattle.gb_folder.proofs.Removing.{hindered_by, reported_place}
+use Rattle.gb_folder.proofs.Emptied.{without_none, blocked_none}
+use Rattle.gb_folder.proofs.Machine.{blames_device, of_machine}
+use Rattle.gb_folder.proofs.removal.remove_at.Goals as goal
 
 pub returns-in-Ok-clause-call : goal.returns-in-Ok-clause-call
 returns-in-Ok-clause-call g c =
     let F = g.F.Folder in
     let place = c.args.place.now in
     inr (c.remove.result, c.remove.ensures.called, ap (removal_ending place) (sym c.in-Ok.is))
-
-pub returns-in-Ok-clause-changes : goal.returns-in-Ok-clause-changes
-returns-in-Ok-clause-changes g c = λ faithful test holds. changes_without test _ _ c.args.place.now (c.in-Ok.ensures.removed faithful) holds
 
 -- where there is no file, the folder is the same without one
 none_left : (old new : Contents) (place : Place) → IsFolder old.files → new ≡ old → file_at old.files place ≡ None → new ≡ without_all old (place ∷ [])
@@ -70,9 +67,4 @@ returns-in-Err g c =
           subst (λ t. IsHindered (F.device.may_leave c.args.folder.now) place None old t new) (sym (h.2 ∙ as_reported))
           (hindered_by (F.device.may_leave c.args.folder.now) place None old new fault h.0 h.1 (λ e. allowed.not_large (c.in-Err.is ∙ ap Err e)) (λ e. allowed.not_named (c.in-Err.is ∙ ap Err e))
           (c.in-Err.ensures.same faithful) (λ d. allowed.torn faithful (c.in-Err.is ∙ ap Err d)))) (at_place c.in_ok-at.at fault c.unless_absent.result c.unless_absent.ensures);
-      changes = λ faithful test holds.
-          elim (is_device fault) [
-            | inl device ↦ let torn = allowed.torn faithful (c.in-Err.is ∙ ap Err device) in changes_left test old new place torn.0 torn.2 holds
-            | inr not_device ↦ changes_none test old new (c.in-Err.ensures.same faithful not_device)
-          ];
     }

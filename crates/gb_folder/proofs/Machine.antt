@@ -10,9 +10,9 @@ use Rattle.gb_folder.specs.declared.folder.FolderFault.{FolderFault}
 use Rattle.gb_folder.specs.declared.folder.FolderFault.TheVariants as folders
 use Rattle.gb_report.specs.declared.fault.Fault.{Fault}
 use Rattle.gb_report.specs.declared.fault.Fault.TheVariants as faults
-use Rattle.gb_store.specs.Faults.{reported_at}
-use Rattle.gb_store.specs.Changes.{ChangesOnly, is_at}
-use Rattle.gb_store.specs.Faults.{IsOfMachine}
+use Rattle.gb_folder.specs.Faults.{reported_at}
+use Rattle.gb_folder.specs.Changes.{ChangesOnly, is_at}
+use Rattle.gb_folder.specs.Faults.{IsOfMachine}
 
 -- the count continues to rise after a call
 pub machine_after : (first second third : ℕ) (fault : Fault) → second ≤ third → IsOfMachine first second fault → IsOfMachine first third fault
@@ -80,15 +80,6 @@ changes_left test old new place left is holds = changes_to test old new _ is (Di
 -- a property of an error result holds of each result equal to it
 pub at_err : {T E : Type 0} (P : Result T E → Type 0) (r : Result T E) (y z : E) → r ≡ Err y → y ≡ z → P (Err z) → P r
 at_err P r y z is same holds = subst P (sym (is ∙ ap Err same)) holds
-
--- whether a fault is the device's
-pub is_device : (fault : FolderFault) → (fault ≡ folders.Device) ⊎ (fault ≢ folders.Device)
-is_device folders.OutOfMemory = inr (λ e. cc)
-is_device folders.Device = inl refl
-is_device folders.Missing = inr (λ e. cc)
-is_device folders.Blocked = inr (λ e. cc)
-is_device folders.TooLarge = inr (λ e. cc)
-is_device folders.BadFileName = inr (λ e. cc)
 
 -- errors of one result are one
 err_is : {T E : Type 0} (r : Result T E) (y w : E) → r ≡ Err y → r ≡ Err w → y ≡ w
