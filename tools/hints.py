@@ -356,6 +356,7 @@ def word_of_gradle(word):
 
 def line_of_gradle(line, place):
     """Words of Gradle in a line, but for names; one that gb has too counts where it goes on as in Gradle."""
+    line = re.sub(r"'[^']*'?", "''", line)
     line = re.sub(rf"\b({NAMING})\s+[\w-]+", r"\1", line)
 
     def is_meant(span):

@@ -1,2 +1,2 @@
-" The scripts of gb. All of this folder is a package: cp -r tools/vim ~/.vim/pack/gb/start/gb
+" The scripts of gb. All of this folder is a package: see docs/GUIDE.md (editors)
 autocmd BufNewFile,BufRead *.gb setfiletype gb
