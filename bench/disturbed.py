@@ -42,7 +42,7 @@ def saved(name, text="a text that was saved\n"):
     return change
 
 
-def written(place, text="other words stand here\n"):
+def written(place, text="other words are here\n"):
     """A file that is written in place, or made again."""
     return lambda folder: put(folder / place, text)
 
@@ -135,7 +135,7 @@ def tried(rooms, before, moment, change):
     is_changed = change(room) is not False
     if change is killed:
         process.kill()
-    told = go_on(process)
+    first = go_on(process)
     if not is_changed:
         return None
     copy = room / "build/o/large"
@@ -149,7 +149,7 @@ def tried(rooms, before, moment, change):
         left = list((room / ".gb/new").rglob("*"))
         return f"left over: {left}" if left else ""
     wrong = sorted(it for it in want.keys() | have.keys() if want.get(it) != have.get(it))
-    return f"status {told[0]}, then {again[0]} {again[1].splitlines()[-1:]}, wrong: {', '.join(wrong)}"
+    return f"status {first[0]}, then {again[0]} {again[1].splitlines()[-1:]}, wrong: {', '.join(wrong)}"
 
 
 def begun(program, top):
@@ -207,8 +207,8 @@ def two_at_once(program, top, pairs):
             status, text = program.run(room, ["all", "-Pv=1"])
         made = files(room / "build")
         wrong += status != 0 or len(made) != TASKS or set(made.values()) != {b"1"}
-    told = ", ".join(f"{count} times {end}" for end, count in sorted(ends.items()))
-    print(f"two gb at once: {pairs} pairs, {told}; {wrong} wrong afterwards", flush=True)
+    shown = ", ".join(f"{count} times {end}" for end, count in sorted(ends.items()))
+    print(f"two gb at once: {pairs} pairs, {shown}; {wrong} wrong afterwards", flush=True)
     return wrong == 0
 
 

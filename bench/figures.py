@@ -35,7 +35,7 @@ def ratio(row, what):
     return costs[what]["processor"] / costs["sha256sum"]["processor"] if what in costs else None
 
 
-def told_of(figures):
+def taken_at(figures):
     """The line about where and when they were taken."""
     machine = f"{figures['processors']} processors, load {figures['load']}; folders on {figures['folders']}"
     return f"{figures['day']}: {figures['program']}; {machine}."
@@ -82,7 +82,7 @@ def layouts(figures):
 
 
 def page_with(tables, page):
-    """The page with these tables where their names stand."""
+    """The page with these tables where their names are."""
     for name, text in tables.items():
         place = re.compile(f"(<!-- figures {name} -->\n).*?(<!-- end of figures -->)", re.DOTALL)
         if not place.search(page):
@@ -96,7 +96,7 @@ def main(words):
     figures = kept()
     tables = {}
     for name in made.keys() & figures.keys():
-        tables[name] = f"{textwrap.fill(told_of(figures[name]), 108)}\n\n{made[name](figures[name])}"
+        tables[name] = f"{textwrap.fill(taken_at(figures[name]), 108)}\n\n{made[name](figures[name])}"
     if not words:
         print("\n\n".join(tables[name] for name in made if name in tables))
         return 0

@@ -34,17 +34,17 @@ run gen""",
 
 def run(program, words, refused, **more):
     """The status, what was printed, and how many growths were asked for."""
-    with tempfile.NamedTemporaryFile() as told:
-        given = os.environ | {"LD_PRELOAD": LIBRARY, "GROWTH": str(refused), "GROWTHS": told.name}
+    with tempfile.NamedTemporaryFile() as counted:
+        given = os.environ | {"LD_PRELOAD": LIBRARY, "GROWTH": str(refused), "GROWTHS": counted.name}
         done = subprocess.run([program, *words], env=given, capture_output=True, text=True, timeout=60, **more)
-        return done.returncode, done.stdout, int(told.read() or 0)
+        return done.returncode, done.stdout, int(counted.read() or 0)
 
 
 def files(folder):
     return {it.relative_to(folder): it.read_bytes() for it in folder.rglob("build/**/*") if it.is_file()}
 
 
-def is_told(status, text, whole):
+def ending_of(status, text, whole):
     """How a run without enough memory ended; none if it was wrong."""
     if (status, text) == whole:
         return "answered"
@@ -62,11 +62,12 @@ def in_memory(program, row):
     ends = collections.Counter()
     for refused in range(1, growths + 1):
         status, text, _ = run(program, [], refused, input=whole)
-        told = is_told(status, text, want[:2])
+        ending = ending_of(status, text, want[:2])
         again = text[: text.find("== ")].rstrip().rsplit("\n", 2)
-        if not told or told == "reported 3" and (status or not text.endswith(shows) or again[-2] != "BUILD SUCCESSFUL"):
+        is_mended = not status and text.endswith(shows) and again[-2] == "BUILD SUCCESSFUL"
+        if not ending or ending == "reported 3" and not is_mended:
             sys.exit(f"growth {refused} of {growths}, status {status}:\n{text}")
-        ends[told] += 1
+        ends[ending] += 1
     return ends
 
 
@@ -98,12 +99,12 @@ def on_disk(program, row, room):
     for refused in range(1, whole[2] + 1):
         shutil.rmtree(room / "tried", ignore_errors=True)
         shutil.copytree(room / "begun", room / "tried")
-        told = is_told(*run(program, words, refused, cwd=room / "tried")[:2], whole[:2])
+        ending = ending_of(*run(program, words, refused, cwd=room / "tried")[:2], whole[:2])
         again = run(program, words, 0, cwd=room / "tried")
         left = files(room / "tried")
-        if not told or again[0] or left != want or run(program, words, 0, cwd=room / "tried")[:2] != idle:
-            sys.exit(f"growth {refused} of {whole[2]} on the disk: {told}, then\n{again[1]}")
-        ends[told] += 1
+        if not ending or again[0] or left != want or run(program, words, 0, cwd=room / "tried")[:2] != idle:
+            sys.exit(f"growth {refused} of {whole[2]} on the disk: {ending}, then\n{again[1]}")
+        ends[ending] += 1
     return ends
 
 

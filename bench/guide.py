@@ -35,19 +35,19 @@ def fail(text):
 
 def replay_text(lines, at):
     """The input of gb_replay that a block shows."""
-    told = []
+    made = []
     text = None
     for number, line in enumerate(lines, at):
         if line.startswith("    "):
             if text is None:
                 fail(f"{number}: text without a put")
             line = line[4:].replace("\\", "\\\\").replace("\t", "\\t")
-            told[-1] += (" " if not text else "") + line + "\\n"
+            made[-1] += (" " if not text else "") + line + "\\n"
             text = True
         else:
-            told.append(line)
+            made.append(line)
             text = False if re.fullmatch(r"put \S+", line) else None
-    return "".join(line + "\n" for line in told)
+    return "".join(line + "\n" for line in made)
 
 
 def only_run():
@@ -85,8 +85,8 @@ def examples_in(path):
                     fail(f"{path}:{start}: the example above has no output")
                 waiting = (start, replay_text(block, start + 1))
                 continue
-            told = re.fullmatch(r"output( status (\d))?", kind)
-            if told is None:
+            form = re.fullmatch(r"output( status (\d))?", kind)
+            if form is None:
                 continue
             if waiting is None:
                 fail(f"{path}:{start}: an output without an example")
@@ -94,7 +94,7 @@ def examples_in(path):
             count += 1
             while (name := f"{title}-{count:02}") in taken:
                 count += 1
-            found.append(Example(name, waiting[0], waiting[1], text, int(told.group(2) or 0)))
+            found.append(Example(name, waiting[0], waiting[1], text, int(form.group(2) or 0)))
             waiting = None
         elif line.startswith("```"):
             fence = (line[3:], number, [])
@@ -113,11 +113,11 @@ def run(program):
     differ = 0
     found = examples()
     for example in found:
-        told, status = outcome(program, example.input)
-        if (told, status) != (example.output, example.status):
+        printed, status = outcome(program, example.input)
+        if (printed, status) != (example.output, example.status):
             differ += 1
             print(f"---- {example.name}, line {example.line}: status {status}")
-            print(told, end="")
+            print(printed, end="")
     print(f"{len(found)} examples, {differ} differ")
     return 1 if differ else 0
 

@@ -106,7 +106,7 @@ for name in given.layout or LAYOUTS:
     for count in counts:
         with tempfile.TemporaryDirectory() as room:
             costs = costs_of(given.gb, pathlib.Path(room), count)
-        told = ", ".join(f"{what} {it.processor:.1f} ({it.wall:.1f})" for what, it in costs.items())
-        print(f"{name} {count}:", told, flush=True)
+        shown = ", ".join(f"{what} {it.processor:.1f} ({it.wall:.1f})" for what, it in costs.items())
+        print(f"{name} {count}:", shown, flush=True)
         rows.append({"layout": name, "count": count, "costs": rounded(costs)})
 keep("layouts", given, rows)

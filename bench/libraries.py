@@ -49,9 +49,9 @@ def is_newer(rtlib, crate):
 
 
 def fits(rtlib, crate, other):
-    """Whether all below the crate are the very libraries that stand below its library: statements fit no others."""
-    beneath = {it.name: it for it in (other or [])}
-    same = lambda it: rtlib.sum_of(f"{it.rlib}/format") == rtlib.sum_of(f"{beneath.get(it.name, it).rlib}/format")
+    """Whether all below the crate are the very libraries below its library: statements fit no others."""
+    below = {it.name: it for it in (other or [])}
+    same = lambda it: rtlib.sum_of(f"{it.rlib}/format") == rtlib.sum_of(f"{below.get(it.name, it).rlib}/format")
     return all(same(it) for it in crate.below())
 
 

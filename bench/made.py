@@ -253,7 +253,7 @@ def public_modules(crate):
         return PUBLIC[crate]
     text = read(f"crates/{crate}/src/lib.rt")
     modules = re.findall(r"(?m)^pub mod (\w+);", text)
-    # Macros are exported wherever they stand.
+    # Macros are exported wherever they are.
     for module in re.findall(r"(?m)^mod (\w+);", text):
         if "#[macro_export]" in read(f"crates/{crate}/src/{module}.rt"):
             modules.append(module)

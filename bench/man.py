@@ -20,18 +20,20 @@ PAGES = {
     "gb_site": ("build the site of the current folder", "docs/SITE.md",
                 [("`gb_site` is `gb` with", "## From nothing"), ("## The kinds", "## Front matter")]),
 }
+EXPLAINED = "\\fBgb\\-explain 52\\fR (tools/explain) prints what fault 52 means"
 FOOT = {
-    "gb": "gb_ask(1), gb_site(1)",
-    "gb_ask": "gb(1)",
-    "gb_site": "gb(1), and docs/SITE.md, which has the kinds of tasks and the Markdown that is read",
+    "gb": "gb_ask(1), gb_site(1); " + EXPLAINED,
+    "gb_ask": "gb(1); " + EXPLAINED,
+    "gb_site": "gb(1); docs/SITE.md, which has the Markdown that is read; " + EXPLAINED,
 }
 
 
 def inline(text):
-    """A text with code and names in bold, and links as their words."""
+    """A text with code and names in bold, links as their words, and numbers in parentheses as faults."""
     text = text.replace("\\", "\\e").replace("-", "\\-")
     text = re.sub(r" \(\[[^\]]*\]\([^)]*\)\)", "", text)
     text = re.sub(r"\[([^\]]*)\]\([^)]*\)", lambda link: link[1], text)
+    text = re.sub(r"(?<![\w.])\((\d{1,2})\)", r"(fault \1)", text)
     text = re.sub(r"\*\*([^*]+)\*\*", r"\\fB\1\\fR", text)
     text = re.sub(r"`([^`]+)`", r"\\fB\1\\fR", text)
     return "\\&" + text if text[:1] in (".", "'") else text

@@ -13,7 +13,7 @@ import os
 import sys
 from xml.sax.saxutils import escape
 
-from figures import named, ratio, told_of
+from figures import named, ratio, taken_at
 from lib.measured import kept
 
 ROOT = os.path.dirname(os.path.dirname(os.path.abspath(__file__)))
@@ -107,7 +107,7 @@ def layers():
     return picture
 
 
-TURN = [
+OUTCOMES = [
     ("`enabled` or a test of `onlyIf` is false?", "SKIPPED", "outputs and record stay"),
     ("no actions?", "UP-TO-DATE", "or executed, if a task that it needs was"),
     ("inputs not read, or outputs not listed?", "FAILED", "outputs and record stay"),
@@ -127,12 +127,12 @@ RUNS = [
 
 
 def execution():
-    """A question below another, each with the label for yes."""
+    """A question below another, each with the outcome for yes."""
     picture = Picture(840)
     y = 12
     picture.text(160, y + 14, "the task starts", 13, "middle", "bold")
     y += 28
-    for question, label, left in TURN:
+    for question, label, left in OUTCOMES:
         picture.arrow(160, y - 6, 160, y + 8)
         picture.box(12, y + 10, 296, 34)
         picture.text(160, y + 31, question.replace("`", ""), 13, "middle")
@@ -177,8 +177,8 @@ def record():
     for x, head in ((12, "the build is stopped"), (240, "then there is"), (548, "and the next build")):
         picture.text(x + 8, 26, head, 13, weight="bold")
     y = 36
-    for number, (point, stands, then, fill) in enumerate(RECORD):
-        for x, width, text in ((12, 200, point), (240, 290, stands), (548, 280, then)):
+    for number, (point, left, then, fill) in enumerate(RECORD):
+        for x, width, text in ((12, 200, point), (240, 290, left), (548, 280, then)):
             picture.box(x, y, width, 32, fill if x == 12 else PALE)
             picture.text(x + 8, y + 21, text, 12)
         if number + 1 < len(RECORD):
@@ -189,10 +189,10 @@ def record():
 
 def bars(picture, y, rows, scale):
     """Bars below one another: a name, a width before it is scaled, its text and a colour."""
-    for name, width, told, fill in rows:
+    for name, width, text, fill in rows:
         picture.text(330, y + 15, name, 12, "end")
         picture.box(338, y, round(scale * width, 1), 20, fill)
-        picture.text(346 + round(scale * width, 1), y + 15, told, 12)
+        picture.text(346 + round(scale * width, 1), y + 15, text, 12)
         y += 24
     return y
 
@@ -207,7 +207,7 @@ def cost():
     picture = Picture(840)
     head = "Processor time, in multiples of sha256sum over all inputs and outputs (the line: once)"
     picture.text(12, 26, head, 13, weight="bold")
-    picture.text(12, 44, told_of(figures), 11)
+    picture.text(12, 44, taken_at(figures), 11)
     y = 58
     for row in rows:
         costs = row["costs"]
@@ -250,7 +250,7 @@ def growth():
     most = [max(point[of] for points, _, _ in lines for point in points) for of in (0, 1)]
     picture = Picture(840)
     picture.text(12, 26, "Processor time with nothing to do, by the number of tasks", 13, weight="bold")
-    picture.text(12, 44, told_of(figures), 11)
+    picture.text(12, 44, taken_at(figures), 11)
 
     def at(count, ms):
         return 70 + round(510 * count / most[0], 1), 380 - round(310 * ms / most[1], 1)
@@ -275,7 +275,7 @@ def peers():
     figures = kept()["builds"]
     picture = Picture(840)
     picture.text(12, 26, "Processor time, each step of the scale tenfold", 13, weight="bold")
-    picture.text(12, 44, told_of(figures), 11)
+    picture.text(12, 44, taken_at(figures), 11)
     y, layouts = 58, dict.fromkeys(named(row) for row in figures["rows"])
     most = max(cost["processor"] for row in figures["rows"] for cost in row["costs"].values())
     for layout in layouts:

@@ -145,9 +145,9 @@ def main():
                 edit(at)
             asked = words(at, count)
             for step in range(5):
-                told, done = run(ask, ["why", *asked]), outcomes(run(gb, asked))
+                predicted, done = run(ask, ["why", *asked]), outcomes(run(gb, asked))
                 builds += 1
-                for line in [] if told.startswith("REFUSED") else told.rstrip("\n").split("\n"):
+                for line in [] if predicted.startswith("REFUSED") else predicted.rstrip("\n").split("\n"):
                     path, rest = line.split(" ", 1)
                     outcome, lines = done.get(path, ("NOT RUN", []))
                     if "(after " in rest or "(needs " in rest:

@@ -12,8 +12,7 @@
   the files that those clauses reach besides.
 - The definitions that docs/DEFINITIONS.md names for each crate are there.
 - docs/CRATES.md has a section for each crate, in the order of crates.txt.
-- That page has a table for each group of crates.txt with its crates, and the table of README.md a row for
-  each group, in the order of crates.txt.
+- That page has a table for each group of crates.txt with its crates, in the order of crates.txt.
 - Files and definitions in that page's table of rules are there.
 - The words of the notation in docs/REFERENCE.md are in the files of tools/ for editors, and the options of
   the command line in those for shells.
@@ -86,7 +85,7 @@ def check_quotes(path):
         if kind.startswith("quote "):
             file = kind.removeprefix("quote ")
             if not os.path.isfile(os.path.join(ROOT, file)) or not has_piece(lines_of(file), block):
-                faults.append(f"{path}:{number}: this does not stand so in {file}")
+                faults.append(f"{path}:{number}: this is not so in {file}")
 
 
 def check_wrong_bodies():
@@ -143,8 +142,8 @@ def theorem():
 
 def check_theorem():
     for kind, lines in theorem().items():
-        told = [block for _, other, block in blocks("docs/PROOF.md") if other == kind]
-        if told != [folded(lines)]:
+        listed = [block for _, other, block in blocks("docs/PROOF.md") if other == kind]
+        if listed != [folded(lines)]:
             faults.append(f"docs/PROOF.md: the block {kind} is that of bench/quotes.py --theorem")
 
 
@@ -164,7 +163,7 @@ def anchors(path):
 
 
 def prose(path):
-    """The lines that stand in no block."""
+    """The lines that are in no block."""
     inside = False
     for line in lines_of(path):
         if line.startswith("```"):

@@ -1,8 +1,8 @@
 #!/usr/bin/env bash
 # release.sh [FOLDER]: one archive of the last commit, gb-COMMIT.tar.gz in FOLDER (here by default). It has the
 # programs gb, gb_ask and gb_site as `rt run` builds them, proved and then stripped; the pages of the manual and
-# the files for shells and editors; explain with the documents that it reads; the commit; and SHA-256 sums of
-# all.
+# the files for shells and editors; explain with the documents that it reads; a README; the commit; and SHA-256
+# sums of all.
 set -eu
 folder=$(cd "${1:-.}" && pwd)
 cd "$(dirname "$0")/.."
@@ -23,6 +23,12 @@ for program in gb gb_ask gb_site; do
 done
 git archive HEAD README.md docs tools | tar -x -C "$top/share"
 git rev-parse HEAD >"$top/COMMIT"
+cat >"$top/README" <<END
+The programs are in bin, the documents in share/README.md and share/docs. For an editor, a shell, the manual
+and explain, see "Editors and shells" and "CI" in share/docs/GUIDE.md.
+Links of the documents into crates/ and bench/ lead nowhere in this archive. These folders are in the
+repository, whose commit is in the file COMMIT.
+END
 (cd "$top" && find . -type f ! -name SHA256SUMS -print0 | sort -z | xargs -0 sha256sum >SHA256SUMS)
 tar -C "$made" --sort=name --owner=0 --group=0 --mtime="@$(git log -1 --format=%ct)" \
   -czf "$folder/gb-$commit.tar.gz" "gb-$commit"

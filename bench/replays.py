@@ -86,12 +86,12 @@ def shown_places(text):
 
 def left(program, row, places):
     """The files that a row leaves, its records aside; fails where the row prints something else."""
-    told, status = guide.outcome(program, row.input)
-    if (told, status) != (row.output, 0):
-        guide.fail(f"{row.name} differs: status {status}\n{told}")
+    printed, status = guide.outcome(program, row.input)
+    if (printed, status) != (row.output, 0):
+        guide.fail(f"{row.name} differs: status {status}\n{printed}")
     shows = "".join(f"show {place}\n" for place in places)
-    told, _ = guide.outcome(program, f"{lines_of(row)}lost\n{shows}")
-    return shown_places(told[len(row.output) :])
+    printed, _ = guide.outcome(program, f"{lines_of(row)}lost\n{shows}")
+    return shown_places(printed[len(row.output) :])
 
 
 def joined(found, leaves):
@@ -108,7 +108,7 @@ def joined(found, leaves):
     return "".join(given)[:-1], "".join(wanted)
 
 
-def told_leaves(text):
+def removed_files(text):
     """The files that the rows leave, as the run removes them."""
     parts = re.split(r"(?m)^put rows/(\S+)\n", text)[1:]
     ends = [part.rsplit("\nlost\n", 1)[-1] for part in parts[1::2]]
@@ -144,7 +144,7 @@ def make(program):
 def main(words):
     if words == ["--check"]:
         given, wanted = read(INPUT), read(OUTPUT)
-        if joined(rows(), told_leaves(given)) != (given, wanted):
+        if joined(rows(), removed_files(given)) != (given, wanted):
             guide.fail("crates/gb_replay/stdin or stdout is not in step with bench/replays or the documents")
     elif len(words) == 1 and not words[0].startswith("-"):
         make(words[0])

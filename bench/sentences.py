@@ -7,7 +7,7 @@
 
 A sentence ends at a full stop, a question mark or an exclamation mark before a space, and where its paragraph
 or its item of a list ends. A piece of code counts as one word, and a link as its text. Headings, tables,
-pictures, links that stand alone in an item, and blocks of code and of quotes are no sentences.
+pictures, links that are alone in an item, and blocks of code and of quotes are no sentences.
 """
 import os
 import re

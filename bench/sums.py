@@ -24,7 +24,7 @@ LAYOUTS = {
 FIRST_BUILD = ("tasks", 1000)
 
 
-def told(name, count, costs):
+def row_of(name, count, costs):
     """Prints a row, and gives it as it is kept."""
     one = costs["sha256sum"].processor
     row = [f"{what} {it.processor:.0f} ({it.processor / one:.2f}, wall {it.wall:.0f})" for what, it in costs.items()]
@@ -61,10 +61,10 @@ def measured(gb, name, count):
             "one edit": lambda: edited(gb, folder, layout),
             "sha256sum": lambda: run(SUMS, folder),
         }
-        yield told(name, count, least(runs, rounds))
+        yield row_of(name, count, least(runs, rounds))
         if (name, count) == FIRST_BUILD:
             runs = {"gb": lambda: first_build(gb, folder, layout), "sha256sum": lambda: copied(folder)}
-            yield told("first build", count, least(runs, rounds))
+            yield row_of("first build", count, least(runs, rounds))
 
 
 given = words_given(__doc__, layout="of " + ", ".join(LAYOUTS))

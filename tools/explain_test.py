@@ -80,6 +80,7 @@ def cures():
         ("regsiter t { }", "register"),
         ('    outputdir out = dir("a")', "outputDir"),
         ('    inputFile a from dir("b")', "inputFiles"),
+        ('    outputFiles a = dir("b")', "outputFile"),
         ('    dependson "a"', "dependsOn"),
         ("    doLst fail", "doLast"),
         ('    input v = p.orelse("a")', "orElse"),
@@ -98,14 +99,51 @@ def cures():
         syntax(line, "written in full: ", *others, hasnt=[cured, "for Gradle's"])
 
 
+def cures_of_shapes():
+    """55: which part of a task does not fit."""
+    lacks = "the task has no"
+    shapes = (
+        (TASK.replace("outputDir", "outputFile"),
+         f"`copyFiles` makes a folder: {lacks} `outputDir out = ..`, but `outputFile out`"),
+        ("register t : concat { inputFiles src from q outputDir out = o }",
+         f"`concat` makes a file: {lacks} `outputFile out = ..`, but `outputDir out`"),
+        ('register t : writeText("a") { outputFile made = o }', f"{lacks} `outputFile out = ..`"),
+        ('register t { }\nnamed t { doLast addFile("a", "b") }', f"{lacks} `outputDir out = ..`"),
+        ("register t : sums { inputFiles files from q outputDir out = o }",
+         f"`sums` reads `src`: {lacks} `inputFiles src from ..`"),
+        ("register t : sums { input a = p inputFiles a from q outputDir out = o }",
+         "`a` is both `input` and `inputFiles`"),
+        ('register t : writeText("a") { outputDir out = o outputFile out = o }',
+         "`out` is both `outputDir` and `outputFile`"),
+        ("register t { outputDir out = o }", "the task has an output and no action"),
+    )
+    for script, part in shapes:
+        ran = Folder(build=script).explain(REFUSED.format("55 bad shape :t"))
+        check(f"55: {part}", ran, [part, "All causes: "])
+
+
+def documents():
+    """Documents are named by paths only where they are there, and their folder is printed once."""
+    home = pathlib.Path(tempfile.mkdtemp(dir=room))
+    (home / "docs").mkdir()
+    (home / "tools").mkdir()
+    for name in ("explain", "hints.py"):
+        shutil.copy(explain.parent / name, home / "tools" / name)
+    shutil.copy(explain.parent.parent / "docs" / "FAULTS.md", home / "docs" / "FAULTS.md")
+    program, given = home / "tools" / "explain", REFUSED.format("20 syntax build.gb:1")
+    folder = Folder(build="    onlyIf !p is isTrue\n")
+    ran = folder.explain(given, program=program)
+    check("without GUIDE.md", ran, ["write what the guide (GUIDE: a test with not)"], ["docs/GUIDE.md"])
+    place = f"docs/ and README.md are in {explain.parent.parent}\n"
+    check("with GUIDE.md", folder.explain(given), ["(docs/GUIDE.md#a-test-with-not)", place])
+    ran = folder.explain("", "20")
+    check("a number", ran, ["20 syntax F:L", place], status=0)
+    folder.at = explain.parent.parent
+    check("a number at the top", folder.explain("", "20"), ["20 syntax F:L"], [place], status=0)
+
+
 def cures_of_tasks():
     cured = "All causes: "
-    shaped = Folder(build=TASK.replace("outputDir", "outputFile"))
-    check("55: a folder", shaped.explain(REFUSED.format("55 bad shape :t")), [
-        "`copyFiles` makes a folder: the task has no `outputDir out = ..`, but `outputFile out`", cured])
-    shaped = Folder(build="register t : sums { input a = p inputFiles a from q outputDir out = o }")
-    check("55: forms", shaped.explain(REFUSED.format("55 bad shape :t")), [
-        "`sums` reads `src`", "`a` is both `input` and `inputFiles`"])
     named = Folder(build='register compile { }\nregister t { outputFile made = file("build/a") }\n')
     line = 'register t { doLast printLine("' + "y" * 200 + '".zip(nope, concat)) }'
     long = Folder(build=f"property a\n{line}\n")
@@ -322,7 +360,9 @@ def commands():
 
 with tempfile.TemporaryDirectory() as room:
     explain = pathlib.Path(sys.argv[1] if len(sys.argv) > 1 else TOP / "explain").resolve()
-    for cases in (cures, cures_of_tasks, statuses, special_scripts, large, printed_lines, hidden, commands):
+    every = (cures, cures_of_shapes, cures_of_tasks, documents, statuses, special_scripts, large, printed_lines,
+             hidden, commands)
+    for cases in every:
         cases()
 print(f"{count} cases, {len(faults)} wrong")
 sys.exit(1 if faults else 0)

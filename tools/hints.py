@@ -13,7 +13,8 @@ import shlex
 import stat
 import textwrap
 
-DOCS = os.path.join(os.path.dirname(os.path.dirname(os.path.realpath(__file__))), "docs")
+HOME = os.path.dirname(os.path.dirname(os.path.realpath(__file__)))
+DOCS = os.path.join(HOME, "docs")
 PLACEHOLDER = re.compile(r":[a-z]\b|\b(?:PATH|[TPFLN])\b")
 MARK = re.compile(r'"(?:\\.|[^"\\\n])*"?|//[^\n]*|[(){}\[\]]')
 TOKEN = re.compile(
@@ -21,7 +22,7 @@ TOKEN = re.compile(
 )
 BRACE = re.compile(r"[{}]")
 ROOT = re.compile(r'"(?:\\.|[^"\\\n])*"?|//[^\n]*|[A-Za-z][\w-]*|[^\s\w]')
-# What in a text of docs/SITE.md stands for others: a file, a line, a key, a name, an address.
+# What in a text of docs/SITE.md means others: a file, a line, a key, a name, an address.
 NAMED_IN_TEXTS = r"[\w/]+\.(?:html|markdown|md|txt|org)\b(?:#\w+)?|\d+"
 NAMED_IN_TEXTS += r"|(?<=has no )date|(?<=order )name|(?<=\{\{)page"
 NAME = re.compile(r"[A-Za-z][A-Za-z0-9_-]{0,63}")
@@ -80,7 +81,25 @@ class Entry:
 def plain(text, name):
     """A text of the document of this name without the marks of its links."""
     text = text.replace("](#", f"]({name}#")
-    return re.sub(r"\[([^\]]*)\]\(([^)]*)\)", r"\1 (docs/\2)", text)
+    return re.sub(r"\[([^\]]*)\]\(([^)]*)\)", lambda link: f"{link[1]} ({address(link[2])})", text)
+
+
+def address(target):
+    """Where a link of a document leads: the file and the section; without the file its name and the words."""
+    if "://" in target:
+        return target
+    place, _, section = target.partition("#")
+    place = os.path.normpath(os.path.join("docs", place))
+    if os.path.exists(os.path.join(HOME, place)):
+        return place + ("#" + section if section else "")
+    words = ": " + section.replace("-", " ") if section else ""
+    return os.path.splitext(os.path.basename(place))[0] + words
+
+
+def where_documents_are(lines):
+    """The folder of the documents that lines name, if it is not the current one."""
+    are_named = any("docs/" in line or "README.md" in line for line in lines)
+    return [f"  docs/ and README.md are in {HOME}"] if are_named and not os.path.samefile(HOME, ".") else []
 
 
 def cut(line, pattern=None):
@@ -754,6 +773,7 @@ class Explainer:
         self.scripts = None
         self.explained = set()
         self.count = 0
+        self.has_named_documents = False
 
     def explain(self, detail, task):
         """The lines after a fault; none where it has no entry, and after so many faults."""
@@ -777,4 +797,6 @@ class Explainer:
             found += lines_of(parts[:1] if has_cure else parts)
             found += [f"  All causes: {shlex.quote(self.program)} {number}"] if has_cure else []
         self.explained.add(number)
-        return found
+        place = [] if self.has_named_documents else where_documents_are(found)
+        self.has_named_documents = self.has_named_documents or bool(place)
+        return found + place

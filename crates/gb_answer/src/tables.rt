@@ -1,7 +1,8 @@
 //! The kinds and the functions of values that the programs offer. These are macros, since what is
 //! known of a closure in a box depends on the function where it is boxed as a `dyn Fn`.
 
-/// All kinds by name, each with its closure; returns early where memory runs out.
+/// The table of all built-in kinds by name, each with its closure. `$alloc` is a `Global`. Where memory
+/// runs out it returns from the function that calls it, with `?`.
 #[macro_export]
 macro_rules! builtin_actions {
     ($alloc:expr) => {{
@@ -38,7 +39,8 @@ macro_rules! builtin_actions {
     }};
 }
 
-/// All functions of values by name, each with its closure; returns early where memory runs out.
+/// The table of all built-in functions of values by name, each with its closure; otherwise as
+/// `builtin_actions!`.
 #[macro_export]
 macro_rules! builtin_functions {
     ($alloc:expr) => {{

@@ -10,7 +10,7 @@ use Rattle.gb_build.proofs.Readings.{registered}
 use Rattle.gb_build.specs.Found.{IsDeclared, WasFound, WasParsed, WereParsed}
 use Rattle.gb_build.specs.InvocationAsked.{BuildsDeclared}
 use Rattle.gb_build.specs.Registering.{setting_of}
-use Rattle.gb_build.specs.Scripts.{AreTexts, FolderSays, script_places, settings_place}
+use Rattle.gb_build.specs.Scripts.{AreTexts, FolderDeclares, script_places, settings_place}
 use Rattle.gb_build.specs.Texts.{FileSays, TextSays}
 use Rattle.gb_core.specs.Lists.{byte_order}
 use Rattle.gb_core.specs.Path.{is_task_path}
@@ -106,7 +106,7 @@ module _ {F : Type 0} (device : Device F) (leaves : Tearing) (Shows : F → Cont
 
   -- what the scripts were found to declare is what those of the contents declare
   pub scripts_found : {M A Z S T : Type 0} (tables : Tables M A Z S T) (given : List (List ℕ × List ℕ)) (source : Source)
-      → IsDeclared device tables given old new source → FolderSays tables contents.files given (Ok source)
+      → IsDeclared device tables given old new source → FolderDeclares tables contents.files given (Ok source)
   scripts_found tables given source declared = (
     declared.settings,
     (declared.settings, text_says SaysAsSettings settings_place declared.settings declared.settings_parsed, (declared.settings_pass, refl)),

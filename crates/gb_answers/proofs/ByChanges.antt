@@ -42,7 +42,7 @@ observed_alike task old new lie folder_old folder_new same =
 
 module _ {S : Type 0} (leaves : Tearing) (kinds : Kinds) (meanings : Meanings S) (rows : Rows S) (agrees : Agrees meanings rows kinds) (task : Task) (trees : Trees)
     (changes : List Changes) (observed : List OutputFiles) where
-  -- what was written and stored, over contents that the run goes on from
+  -- what was written and stored, over contents from which the run starts
   wrote : (before : Trees) (calls : List Call) (lines : List Text) (cur new : Contents) → IsFolder cur.files → IsTrue (are_placed cur.files) → AreSeparate task
       → AllByRecursion (IsFitting kinds task) task.actions → GoesOn kinds task before trees changes observed cur.files
       → Then (WritesChanges meanings rows task trees changes observed) (Stores task (IsOfRunByChanges meanings rows task trees changes observed)) calls lines (Ok tt) → AnswersAll leaves cur calls new
@@ -65,7 +65,7 @@ module _ {S : Type 0} (leaves : Tearing) (kinds : Kinds) (meanings : Meanings S)
           )
       on (Err fault) writes stores = absurd (let e = stores.2 in (cc))
 
-  -- A run by changes that went well leaves what the actions make, in the emptied output places, with room there.
+  -- An incremental run that went well leaves what the actions make, in the emptied outputs, with room there.
   pub ran_by_changes : (calls : List Call) (lines : List Text) (old new : Contents) → IsFolder old.files → IsTrue (are_placed old.files) → AreSeparate task → trees ≡ trees_of task (outside old).files
       → AllByRecursion (IsFitting kinds task) task.actions → (before : Trees) (existing : Files) → GoesOn kinds task before trees changes observed existing → observed ≡ map (observed_of old.files) task.outputs
       → RunByChanges meanings rows task trees changes observed calls lines (Ok tt) → AnswersAll leaves old calls new

@@ -73,7 +73,7 @@ kept test files (output ∷ outputs) within =
     ap₂ (λ (fs : Files) (os : List OutputFiles). let first : OutputFiles = record { name = output.name; form = output.form; files = fs } in first ∷ os)
     (from_same test files output.place (first_within test output outputs within)) (kept test files outputs (rest_within test output outputs within))
 
--- a run goes on from any files of which its outputs were read
+-- a run starts from any files of which its outputs were read
 pub goes_on_here : (kinds : Kinds) (task : Task) (before trees : Trees) (changes : List Changes) (observed : List OutputFiles) (existing files : Files) → IsFolder files → IsTrue (are_placed files)
     → GoesOn kinds task before trees changes observed existing → observed ≡ map (observed_of files) task.outputs → GoesOn kinds task before trees changes observed files
 goes_on_here kinds task before trees changes observed existing files folder placed on is = record {

@@ -34,14 +34,14 @@ use Rattle.gb_run.specs.ChangeLaws.{IsReplied}
 use Rattle.gb_run.specs.RunInput.{RunInput, run_input}
 use Rattle.gb_run.specs.Doing.{Does, Ending, OrEnds, call_of, ending_of}
 use Rattle.gb_run.specs.Named.{existing, held_after, named, put as put_files, steps_of}
-use Rattle.gb_run.specs.Steps.{Step, in_turn, put_steps}
+use Rattle.gb_run.specs.Steps.{Step, in_step_order, put_steps}
 use Rattle.gb_run.specs.Work.{DoesParts, OrPrints, Part, RunsInFull, Work, files_of, or_fault, or_stop, part_of, with_part, work_of}
 use Rattle.gb_run.specs.WorkByChanges.{EndsSo, Increment, IsPart, IsReaderPart, IsWriterPart, RunsByChanges, increment_of}
 use Rattle.gb_run.proofs.Beside.{at_over}
 use Rattle.gb_run.proofs.Digested.{each_found}
 use Rattle.gb_run.proofs.Leading.{at_files, held_is_made}
 use Rattle.gb_run.proofs.Looks.{at_put, sorted_steps}
-use Rattle.gb_run.proofs.Turning.{ok_value}
+use Rattle.gb_run.proofs.WritingAction.{ok_value}
 use Rattle.gb_run.proofs.Writer.{GoesBy, IsOfWriter, first_goes, heads, ok_same, writer_made, writer_of}
 use Rattle.gb_tree.proofs.Holding.{all_append}
 
@@ -242,7 +242,7 @@ abbrev writing : Step → Bool
 writing step = is_place step.0 && is_some step.1
 
 -- what holds of all in turn holds of those at places
-before_turn : (P : Step → Type 0) (steps : List Step) → AllByRecursion P (in_turn steps) → AllByRecursion (λ (step : Step). is_place step.0 ≡ true → P step) steps
+before_turn : (P : Step → Type 0) (steps : List Step) → AllByRecursion P (in_step_order steps) → AllByRecursion (λ (step : Step). is_place step.0 ≡ true → P step) steps
 before_turn P steps all = split steps (left_part P (filter removal steps) (filter writing steps) all) (right_part P (filter removal steps) (filter writing steps) all)
   where
     split : (rest : List Step) → AllByRecursion P (filter removal rest) → AllByRecursion P (filter writing rest) → AllByRecursion (λ (step : Step). is_place step.0 ≡ true → P step) rest

@@ -108,7 +108,7 @@ read_among task files trees observed trees_here observed_here c h = elim (in_one
   | inr output ↦ outputs_among files task.outputs c (ap (λ (os : List OutputFiles). has_path (contents_in (map pair_of os)) c) (sym observed_here) ∙ output)
 ]
 
--- so the record that was read is true beside them
+-- so the record that was read is true next to them
 true_beside : (kinds : Kinds) (task : Task) (last : Option Record) (run : Record) (files : Files) (trees : Trees) (observed : List OutputFiles) → last ≡ Some run
     → trees ≡ trees_of task files → observed ≡ map (observed_of files) task.outputs → GoesByTrue kinds last (bytes_in files) → IsTrueBeside kinds run (contents_read trees observed)
 true_beside kinds task last run files trees observed is trees_here observed_here goes =

@@ -17,14 +17,16 @@ pub fn answered_success_is_from_scratch<A: Actions, T: Transforms, F: Folder>(ta
         (tables_of T.meanings A.meanings tables.now) }
 {}
 
-/// For any folder that keeps its calls, whoever else writes there at any time: if kinds agree, each
-/// record that a build read is one that an earlier build was to store, and no two contents that
-/// calls returned or were to write share a digest, then each record that these builds were to store
-/// is true: its outputs are what its actions make of its inputs. A build whose process was killed
-/// counts with the calls that it made. If a build ended, the law above holds of it without its
-/// premise on records (that on digests is about all these calls); and where it reported a task with
-/// actions as up to date, the files that calls had returned of its outputs are what its actions make
-/// of those of its inputs. All builds have the same tables.
+/// For builds one after another, with the same tables, on any folder that keeps its calls, whoever
+/// else writes there at any time. A build whose process was killed counts with the calls that it
+/// made. The premises: kinds agree; each record that a build read is one that an earlier one was to
+/// store; and no two contents that calls returned or were to write share a digest. Then
+///
+/// - each record that these builds were to store is true: its outputs are what its actions make of
+///   its inputs;
+/// - where a build that ended reported a task with actions as up to date, the files that calls had
+///   returned of its outputs are what its actions make of those of its inputs;
+/// - the law above holds of each build that ended, without its premise on records.
 pub fn records_stay_true<A: Actions, T: Transforms, F: Folder>(tables: &Tables<A, T>)
     ensures { RecordsStayTrue F.device
         (tables_of T.meanings A.meanings tables.now) }

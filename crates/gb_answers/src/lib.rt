@@ -28,7 +28,7 @@
 //!
 //! Two types of folders keep their calls. A `DiskFolder` does so for proofs alone: by
 //! `disk_folders_keep_calls` the laws hold of builds on a disk. `invoke_logged` is a build over a
-//! `LoggedFolder` (`gb_logged`), whose caller can read the calls, whatever the folder beneath is.
+//! `LoggedFolder` (`gb_logged`), whose caller can read the calls, whatever the inner folder is.
 //!
 //! Not in these laws: outcomes and printed lines. The clause says why a task is up to date and what
 //! an executed one did, but not that no task was executed that was up to date. (On a disk `promise`

@@ -9,7 +9,7 @@
 
 use gb_action::table::ActionTable;
 use gb_answer::{builtin_actions, builtin_functions};
-use gb_ask_here::here::ask_here;
+use gb_ask_command::here::ask_here;
 use gb_command::run::UNPRINTED;
 use gb_kinds::builtin::{Builtin, StoredAction};
 use std::alloc::AllocError;

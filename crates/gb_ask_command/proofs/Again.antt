@@ -18,7 +18,7 @@ use Rattle.gb_script.proofs.StatementLaws.{Reads-script, script_ends_text}
 use Rattle.gb_script.specs.Script.{Says}
 use Rattle.gb_script.specs.declared.script.Statement.{Statement}
 use Rattle.gb_build.proofs.PlaceLemmas.{places_good}
-use Rattle.gb_build.specs.Scripts.{AreTexts, FolderSays, SettingsSay, script_places}
+use Rattle.gb_build.specs.Scripts.{AreTexts, FolderDeclares, SettingsDeclare, script_places}
 use Rattle.gb_build.specs.Texts.{FileSays, TextSays}
 use Rattle.gb_ask_command.specs.Faulty.{IsFaulty}
 use Rattle.gb_check.specs.Sites.{HasTextFault, IsUnread, blocked, no_place, no_script, script_of_project}
@@ -49,7 +49,7 @@ module _ (files : Files) where
 
 -- no script has a fault if the folder declares a source
 pub none_again : {M F Z S A : Type 0} (tables : Tables M F Z S A) (files : Files) (given : List (List ℕ × List ℕ)) (source : Source) (scripts : List (Path × List Statement)) (fault : Fault)
-    → FolderSays tables files given (Ok source) → IsRead source scripts → IsUnread files scripts fault → ⊥
+    → FolderDeclares tables files given (Ok source) → IsRead source scripts → IsUnread files scripts fault → ⊥
 none_again tables files given source scripts fault (settings, (first, says_first, (none, same)), (texts, are, (_, is))) read unread =
     let good : list_all is_place (script_places (projects_of settings)) ≡ true = subst (λ s. list_all is_place (script_places (projects_of s)) ≡ true) (sym same) (places_good first none) in
     let paths : project_paths settings ≡ project_paths read.settings = ap (λ (s : Source). s.names.projects) (sym is ∙ read.said) in
@@ -66,7 +66,7 @@ among : (P : Path × List Statement → Type 0) (before : List (Path × List Sta
 among P [] one after all = all.0
 among P (other ∷ before) one after all = among P before one after all.1
 
-are_places : (files : Files) (settings : List (List (List ℕ))) → SettingsSay files (Ok settings) → list_all is_place (script_places (projects_of settings)) ≡ true
+are_places : (files : Files) (settings : List (List (List ℕ))) → SettingsDeclare files (Ok settings) → list_all is_place (script_places (projects_of settings)) ≡ true
 are_places files settings (first, says_first, (none, same)) = subst (λ s. list_all is_place (script_places (projects_of s)) ≡ true) (sym same) (places_good first none)
 
 -- the script of a statement with a fault can be read once more

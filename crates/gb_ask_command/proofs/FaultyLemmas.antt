@@ -15,15 +15,15 @@ use Rattle.gb_script.specs.declared.script.Statement.{Statement}
 use Rattle.gb_folder.specs.Faults.{IsOfMachine}
 use Rattle.gb_ask_command.specs.Faulty.{IsFaultless, IsFaulty, IsTextFault}
 use Rattle.gb_build.proofs.OneLemmas.{folders_one}
-use Rattle.gb_build.specs.Scripts.{FolderSays, ScriptsSay, SettingsSay, script_places}
+use Rattle.gb_build.specs.Scripts.{FolderDeclares, ScriptsDeclare, SettingsDeclare, script_places}
 
 no_first : (faults : List Fault) → None ≡ first_of faults → faults ≡ []
 no_first [] is = refl
 no_first (fault ∷ faults) is = absurd (cc)
 
 module _ {M F Z S A : Type 0} (tables : Tables M F Z S A) (files : Files) where
-  module _ (settings : List (List (List ℕ))) (texts : List (List Statement)) (settings_say : SettingsSay files (Ok settings))
-      (scripts_say : ScriptsSay files (script_places (projects_of settings)) (Ok texts)) where
+  module _ (settings : List (List (List ℕ))) (texts : List (List Statement)) (settings_say : SettingsDeclare files (Ok settings))
+      (scripts_say : ScriptsDeclare files (script_places (projects_of settings)) (Ok texts)) where
     pub faulty : (result : Result (Option FaultAt) Fault)
         → IfOk result (λ found. option_map (λ at. at.fault) found ≡ first_of (configure_faults tables (source_of settings texts [])))
         → IfOk result (λ found. IfSome found (IsFirstAt tables (source_of settings texts []).names (zip (project_paths settings) texts)))
@@ -56,12 +56,12 @@ module _ {M F Z S A : Type 0} (tables : Tables M F Z S A) (files : Files) where
   memory_alone before after (Err fault) memory = inl (inl memory)
 
   -- scripts whose statements have no fault are refused only for a text
-  pub of_texts : (given : List (List ℕ × List ℕ)) (fault : Fault) → IsFaultless tables files → FolderSays tables files given (Err fault) → IsTextFault files fault
+  pub of_texts : (given : List (List ℕ × List ℕ)) (fault : Fault) → IsFaultless tables files → FolderDeclares tables files given (Err fault) → IsTextFault files fault
   of_texts given fault faultless (inl settings) = inl settings
   of_texts given fault faultless (inr (settings, says, inl scripts)) = inr (settings, says, scripts)
   of_texts given fault faultless (inr (settings, says, inr (texts, are, wrong))) =
       let source = source_of faultless.settings faultless.texts given in
-      let here : FolderSays tables files given (Ok source) = (faultless.settings, faultless.settings_say, (faultless.texts, faultless.scripts_say, (faultless.none, refl))) in
-      let there : FolderSays tables files given (Err fault) = inr (settings, says, inr (texts, are, wrong)) in
+      let here : FolderDeclares tables files given (Ok source) = (faultless.settings, faultless.settings_say, (faultless.texts, faultless.scripts_say, (faultless.none, refl))) in
+      let there : FolderDeclares tables files given (Err fault) = inr (settings, says, inr (texts, are, wrong)) in
       let two = folders_one tables files given (Ok source) (Err fault) here there in
       absurd (cc)

@@ -4,7 +4,7 @@ use Rattle.gb_build.proofs.OneLemmas.{folders_one}
 use Rattle.gb_build.proofs.Readings.{registered}
 use Rattle.gb_ask_command.specs.Faulty.{IsFaulty}
 use Rattle.gb_build.specs.Registering.{registers_in}
-use Rattle.gb_build.specs.Scripts.{FolderSays}
+use Rattle.gb_build.specs.Scripts.{FolderDeclares}
 use Rattle.gb_check.specs.Found.{IsOfWords, IsSilent}
 use Rattle.gb_check.specs.Sites.{AreLinesAt, script_of_project}
 use Rattle.gb_check.proofs.Same.{found_of_same}
@@ -50,7 +50,7 @@ module _ {M F Z S A : Type 0} (tables : Tables M F Z S A) where
 
   -- ---- Builds of the folder
 
-  module _ (source : Source) (contents : Contents) (given : List (Text × Text)) (says : FolderSays tables contents.files given (Ok source)) (silent : IsSilent (registry_said tables source)) where
+  module _ (source : Source) (contents : Contents) (given : List (Text × Text)) (says : FolderDeclares tables contents.files given (Ok source)) (silent : IsSilent (registry_said tables source)) where
     there : (invocation : Invocation) → invocation.properties ≡ given → registers_in tables (outside contents).files invocation.properties (Ok (registry_said tables source))
     there invocation same = registered tables contents given invocation.properties (sym same) source says
 

@@ -1,5 +1,5 @@
 -- The report of a plan is the report of the request, and a later report is one of the earlier folder.
-use Rattle.std.specs.Prelude.{ℕ, ◌≡◌, ◌≤◌, List, [], Option, Result, Ok, Err, IfErr, IfOk}
+use Rattle.std.specs.Prelude.{ℕ, ◌≡◌, ◌≤◌, List, Option, Result, Ok, Err, IfErr, IfOk}
 use Rattle.std.specs.List.{AllZip, zip}
 use Rattle.std.proofs.Common.{subst, arith}
 use Rattle.gb_action.specs.Meanings.{Meanings}

@@ -3,7 +3,7 @@ use Rattle.std.specs.Prelude.{ℕ, ◌≡◌, ◌⊎◌, ◌∷◌, ◌++◌, Ma
 use Rattle.std.specs.Prelude.{if◌then◌else◌, map, nat_eq, string_bytes}
 use Rattle.gb_ask_command.specs.Faulty.{IsFaulty, IsTextFault}
 use Rattle.gb_build.specs.Registering.{registers_in}
-use Rattle.gb_build.specs.Scripts.{FolderSays}
+use Rattle.gb_build.specs.Scripts.{FolderDeclares}
 use Rattle.gb_check.specs.All.{AreFindings}
 use Rattle.gb_check.specs.Found.{IsOfWords, findings_text, unread_text}
 use Rattle.gb_check.specs.Statement.{IsStatementSpot}
@@ -135,7 +135,7 @@ module _ {M F Z S A : Type 0} (tables : Tables M F Z S A) (known : Type 0) where
 
   pub record IsChecked (invocation : Invocation) (contents : Contents) (found : Findings) : Type 0 where
     pub source : Source
-    pub said : known → FolderSays tables contents.files invocation.properties (Ok source)
+    pub said : known → FolderDeclares tables contents.files invocation.properties (Ok source)
     pub found_of : AreFindingsOf source contents found
     pub quiet : known → found.faults.items ≡ []
         → IsQuiet tables source contents invocation.properties

@@ -1,6 +1,6 @@
 -- The replies to the arguments of a question.
 use Rattle.std.specs.Prelude.{ℕ, ◌≡◌, ◌⊎◌, List, Ok, Err, Result, string_bytes}
-use Rattle.gb_build.specs.Scripts.{FolderSays}
+use Rattle.gb_build.specs.Scripts.{FolderDeclares}
 use Rattle.gb_command.specs.Answered.{AreRefused, AskFor, Given}
 use Rattle.gb_declare.specs.Registered.{registry_said}
 use Rattle.gb_folder.specs.Files.{Place}
@@ -39,10 +39,10 @@ module _ {M F Z S A : Type 0} (tables : Tables M F Z S A) (known : Type 0) (old 
   -- known, this is the result for the folder's own scripts, or a fault of the machine.
   abbrev pub AreRead : Invocation → Result Source Fault → Type 0
   AreRead invocation (Ok source) =
-      known → FolderSays tables old.contents.files invocation.properties (Ok source)
+      known → FolderDeclares tables old.contents.files invocation.properties (Ok source)
   AreRead invocation (Err fault) =
       known → IsOfMachine old.failures after fault
-      ⊎ FolderSays tables old.contents.files invocation.properties (Err fault)
+      ⊎ FolderDeclares tables old.contents.files invocation.properties (Err fault)
 
   -- scripts are read, and this holds of the tasks that they register
   abbrev pub IsOfScripts : Invocation → (Registry → Type 0) → Type 0

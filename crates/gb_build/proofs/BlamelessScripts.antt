@@ -14,7 +14,7 @@ use Rattle.gb_report.specs.declared.fault.Limited.TheVariants as limited
 use Rattle.gb_script.specs.Script.{Says, SaysAsSettings}
 use Rattle.gb_script.specs.declared.fault.ScriptFault.{ScriptFault}
 use Rattle.gb_script.specs.declared.fault.ScriptFault.TheVariants as scripts
-use Rattle.gb_build.specs.Scripts.{FolderSays, SettingsSay, SourceSays, settings_place}
+use Rattle.gb_build.specs.Scripts.{FolderDeclares, SettingsDeclare, SourceDeclares, settings_place}
 use Rattle.gb_build.specs.Texts.{FileSays, TextSays, in_file}
 use Rattle.gb_build.proofs.Blameless.{AreBlameless, all_append, configure_blameless, either, first_blameless, one_or_none}
 
@@ -76,16 +76,16 @@ module _ {X : Type 0} (SaysAs : Bytes → Result (List X) ScriptFault → Type 0
 
 -- ---- Scripts
 
-settings_say_blameless : (files : Files) (fault : Fault) → SettingsSay files (Err fault) → is_of_device fault ≡ false
+settings_say_blameless : (files : Files) (fault : Fault) → SettingsDeclare files (Err fault) → is_of_device fault ≡ false
 settings_say_blameless files fault (inl says) = text_says_blameless SaysAsSettings settings_place fault files says
 settings_say_blameless files fault (inr later) = first_blameless (settings_faults later.0) fault (settings_blameless later.0) later.2
 
 module _ {M F Z S A : Type 0} (tables : Tables M F Z S A) where
-  source_says_blameless : (source : Source) (fault : Fault) → SourceSays tables source (Err fault) → is_of_device fault ≡ false
+  source_says_blameless : (source : Source) (fault : Fault) → SourceDeclares tables source (Err fault) → is_of_device fault ≡ false
   source_says_blameless source fault says = first_blameless (configure_faults tables source) fault (configure_blameless tables source) says
 
   -- what the scripts of a folder are refused for is not the device's fault
-  pub says_blame_none : (files : Files) (given : List (List ℕ × List ℕ)) (fault : Fault) → FolderSays tables files given (Err fault) → is_of_device fault ≡ false
+  pub says_blame_none : (files : Files) (given : List (List ℕ × List ℕ)) (fault : Fault) → FolderDeclares tables files given (Err fault) → is_of_device fault ≡ false
   says_blame_none files given fault (inl says) = settings_say_blameless files fault says
   says_blame_none files given fault (inr (settings, said, inl first)) = text_says_blameless Says first.place fault files first.here
   says_blame_none files given fault (inr (settings, said, inr (texts, all, says))) = source_says_blameless (source_of settings texts given) fault says

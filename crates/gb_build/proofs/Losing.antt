@@ -17,7 +17,7 @@ use Rattle.gb_meaning.specs.Events.{KeepsWhatExists, RemembersAfter, Setting}
 use Rattle.gb_meaning.specs.Headline.{Registering, TornWritesAreDetected, contents_outside, state_of}
 use Rattle.gb_meaning.specs.Kinds.{Kinds}
 use Rattle.gb_meaning.specs.Memory.{Entry, Memory, recalled}
-use Rattle.gb_meaning.specs.TrueRecord.{IsMade, SaysNoRecord, Stores, contents_of}
+use Rattle.gb_meaning.specs.TrueRecord.{IsMade, IsTextOfNoRecord, Stores, contents_of}
 use Rattle.gb_folder.proofs.Sound.{same_from}
 use Rattle.gb_meaning.proofs.Lemmas.Files.{of_T, T_of}
 use Rattle.gb_meaning.proofs.Lemmas.Clear.{Among, in_left, in_one, in_right}
@@ -58,18 +58,18 @@ left_elsewhere files place q (Some bytes) other = file_at-with_file files place 
 
 -- what is left is the same, or is no record
 abbrev IsSameOrNone : Path → Option Bytes → Option Bytes → Type 0
-IsSameOrNone path now existed = (now ≡ existed) ⊎ SaysNoRecord IsText path now
+IsSameOrNone path now existed = (now ≡ existed) ⊎ IsTextOfNoRecord IsText path now
 
 none_or_same : (path : Path) (now existed : Option Bytes) → IsOrGone now existed → IsSameOrNone path now existed
 none_or_same path now existed (inl same) = inl same
-none_or_same path now existed (inr gone) = inr (subst (SaysNoRecord IsText path) (sym gone) tt)
+none_or_same path now existed (inr gone) = inr (subst (IsTextOfNoRecord IsText path) (sym gone) tt)
 
 module _ (may_leave : Tearing) (observed : TornWritesAreDetected IsText record_place may_leave) (old new : Contents) where
   torn_at : (path : Path) (existed left : Option Bytes) → IsTrue (is_task_path path) → may_leave (record_place path) existed None left
       → IsOrGone existed (file_at old.files (record_place path)) → IsSameOrNone path left (file_at old.files (record_place path))
   torn_at path existed left good may was = elim (observed path existed None left good tt may) [
     | inl same ↦ none_or_same path left (file_at old.files (record_place path)) (subst (λ (now : Option Bytes). IsOrGone now (file_at old.files (record_place path))) (sym same) was)
-    | inr (inl gone) ↦ inr (subst (SaysNoRecord IsText path) (sym gone) tt)
+    | inr (inl gone) ↦ inr (subst (IsTextOfNoRecord IsText path) (sym gone) tt)
     | inr (inr none) ↦ inr none
   ]
 
@@ -227,7 +227,7 @@ module _ (kinds : Kinds) (registers : Registering) (may_leave : Tearing) (observ
           (record {
             in_order = refl;
             of_tasks = tt;
-            records = λ path good. subst (λ (bytes : Option Bytes). SaysNoRecord IsText path bytes) (sym (all_gone step path)) tt;
+            records = λ path good. subst (λ (bytes : Option Bytes). IsTextOfNoRecord IsText path bytes) (sym (all_gone step path)) tt;
           }),
       λ bytes within. absurd (none_within bytes within),
     );

@@ -13,8 +13,8 @@ use Rattle.gb_script.proofs.StatementLaws.{Reads-script, script_ends_text, Reads
 use Rattle.gb_script.specs.Script.{Says, SaysAsSettings}
 use Rattle.gb_script.specs.declared.fault.ScriptFault.{ScriptFault}
 use Rattle.gb_build.proofs.ExecutionLemmas.{IsOne, passes_one, executions_one}
-use Rattle.gb_build.specs.Laws.{FoldersSayOneThing}
-use Rattle.gb_build.specs.Scripts.{ScriptsSay, SettingsSay, SourceSays, script_places, settings_place}
+use Rattle.gb_build.specs.Laws.{FoldersDeclareOneThing}
+use Rattle.gb_build.specs.Scripts.{ScriptsDeclare, SettingsDeclare, SourceDeclares, script_places, settings_place}
 use Rattle.gb_build.specs.Texts.{FileSays, TextSays, in_file}
 use Rattle.gb_build.specs.Executions.{InTurn, Passes}
 
@@ -88,7 +88,7 @@ module _ {P T : Type 0} (S : P → Result T Fault → Type 0) (one : (p : P) →
 script_one : (files : Files) (place : Place) → IsOne (TextSays Says files place)
 script_one files place = text_one Says (one_said Reads-script script_ends_text) place files
 
-scripts_one : (files : Files) (places : List Place) → IsOne (ScriptsSay files places)
+scripts_one : (files : Files) (places : List Place) → IsOne (ScriptsDeclare files places)
 scripts_one files places (Ok a) (Ok b) is also = ap Ok (all_one (TextSays Says files) (script_one files) places a b is also)
 scripts_one files places (Ok a) (Err f) is also = absurd (none_bad (TextSays Says files) (script_one files) places a also.prefix also.back also.place f is also.all also.here)
 scripts_one files places (Err e) (Ok b) is also = absurd (none_bad (TextSays Says files) (script_one files) places b is.prefix is.back is.place e also is.all is.here)
@@ -98,16 +98,16 @@ scripts_one files places (Err e) (Err f) is also =
     is.before also.before is.here also.here
     )
 
-settings_one : (files : Files) → IsOne (SettingsSay files)
+settings_one : (files : Files) → IsOne (SettingsDeclare files)
 settings_one files =
     executions_one (TextSays SaysAsSettings files settings_place) (λ settings. Passes (settings_faults settings) settings)
     (text_one SaysAsSettings (one_said Reads-settings settings_end_text) settings_place files) (λ settings. passes_one (settings_faults settings) settings)
 
-pub folders_one : {M F Z S A : Type 0} (tables : Tables M F Z S A) → FoldersSayOneThing tables
+pub folders_one : {M F Z S A : Type 0} (tables : Tables M F Z S A) → FoldersDeclareOneThing tables
 folders_one tables files given =
-    executions_one (SettingsSay files)
-    (λ settings. InTurn (ScriptsSay files (script_places (projects_of settings))) (λ texts. SourceSays tables (source_of settings texts given)))
+    executions_one (SettingsDeclare files)
+    (λ settings. InTurn (ScriptsDeclare files (script_places (projects_of settings))) (λ texts. SourceDeclares tables (source_of settings texts given)))
     (settings_one files)
-    (λ settings. executions_one (ScriptsSay files (script_places (projects_of settings)))
-    (λ texts. SourceSays tables (source_of settings texts given))
+    (λ settings. executions_one (ScriptsDeclare files (script_places (projects_of settings)))
+    (λ texts. SourceDeclares tables (source_of settings texts given))
     (scripts_one files (script_places (projects_of settings))) (λ texts. passes_one (configure_faults tables (source_of settings texts given)) (source_of settings texts given)))

@@ -19,8 +19,8 @@ use Rattle.gb_script.specs.declared.fault.ScriptFault.{ScriptFault}
 use Rattle.gb_script.specs.declared.script.Statement.{Statement}
 use Rattle.gb_registry.proofs.Fine.{AreFine, is_fine, projects_fine}
 use Rattle.gb_build.proofs.ExecutionLemmas.{executions_stay}
-use Rattle.gb_build.specs.Laws.{OwnFilesSayNothing}
-use Rattle.gb_build.specs.Scripts.{AreTexts, FolderSays, ScriptsSay, SettingsSay, SourceSays, script_place, script_places, settings_place}
+use Rattle.gb_build.specs.Laws.{OwnFilesDeclareNothing}
+use Rattle.gb_build.specs.Scripts.{AreTexts, FolderDeclares, ScriptsDeclare, SettingsDeclare, SourceDeclares, script_place, script_places, settings_place}
 use Rattle.gb_build.specs.Texts.{FileSays, TextSays}
 use Rattle.gb_build.specs.Executions.{InTurn, Passes}
 
@@ -109,7 +109,7 @@ module _ (files other : Files) (alike : (place : Place) → is_plain place ≡ t
     texts_stay places texts (right_of (is_plain place) (list_all is_plain places) plain) all.1,
   )
 
-  scripts_stay : (places : List Place) → list_all is_plain places ≡ true → (said : Result (List (List Statement)) Fault) → ScriptsSay files places said → ScriptsSay other places said
+  scripts_stay : (places : List Place) → list_all is_plain places ≡ true → (said : Result (List (List Statement)) Fault) → ScriptsDeclare files places said → ScriptsDeclare other places said
   scripts_stay places plain (Ok texts) all = texts_stay places texts plain all
   scripts_stay places plain (Err fault) first =
       let parts : (list_all is_plain first.prefix && list_all is_plain (first.place ∷ first.back)) ≡ true =
@@ -126,7 +126,7 @@ module _ (files other : Files) (alike : (place : Place) → is_plain place ≡ t
         here = text_stays Says files other first.place (alike first.place here) (Err fault) first.here;
       }
 
-  settings_stay : (said : Result (List (List (List ℕ))) Fault) → SettingsSay files said → SettingsSay other said
+  settings_stay : (said : Result (List (List (List ℕ))) Fault) → SettingsDeclare files said → SettingsDeclare other said
   settings_stay =
       executions_stay (TextSays SaysAsSettings files settings_place) (TextSays SaysAsSettings other settings_place)
       (λ settings. Passes (settings_faults settings) settings) (λ settings. Passes (settings_faults settings) settings)
@@ -164,24 +164,24 @@ plain_places (path ∷ paths) fine =
     ∙ plain_places paths (right_of (is_fine path) (list_all is_fine paths) fine)
 
 module _ {M F Z S A : Type 0} (tables : Tables M F Z S A) (given : List (List ℕ × List ℕ)) (files other : Files) (alike : (place : Place) → is_plain place ≡ true → AreAlike files other place) where
-  folder_stays : (said : Result Source Fault) → FolderSays tables files given said → FolderSays tables other given said
+  folder_stays : (said : Result Source Fault) → FolderDeclares tables files given said → FolderDeclares tables other given said
   folder_stays =
-      executions_stay (SettingsSay files) (SettingsSay other)
-      (λ settings. InTurn (ScriptsSay files (script_places (projects_of settings))) (λ texts. SourceSays tables (source_of settings texts given)))
-      (λ settings. InTurn (ScriptsSay other (script_places (projects_of settings))) (λ texts. SourceSays tables (source_of settings texts given)))
+      executions_stay (SettingsDeclare files) (SettingsDeclare other)
+      (λ settings. InTurn (ScriptsDeclare files (script_places (projects_of settings))) (λ texts. SourceDeclares tables (source_of settings texts given)))
+      (λ settings. InTurn (ScriptsDeclare other (script_places (projects_of settings))) (λ texts. SourceDeclares tables (source_of settings texts given)))
       (settings_stay files other alike)
       (λ settings good.
-      executions_stay (ScriptsSay files (script_places (projects_of settings))) (ScriptsSay other (script_places (projects_of settings)))
-      (λ texts. SourceSays tables (source_of settings texts given))
-      (λ texts. SourceSays tables (source_of settings texts given))
+      executions_stay (ScriptsDeclare files (script_places (projects_of settings))) (ScriptsDeclare other (script_places (projects_of settings)))
+      (λ texts. SourceDeclares tables (source_of settings texts given))
+      (λ texts. SourceDeclares tables (source_of settings texts given))
       (scripts_stay files other alike (script_places (projects_of settings)) (good_places settings good))
       (λ texts _ r says. says))
     where
-      good_places : (settings : List (List (List ℕ))) → SettingsSay files (Ok settings) → list_all is_plain (script_places (projects_of settings)) ≡ true
+      good_places : (settings : List (List (List ℕ))) → SettingsDeclare files (Ok settings) → list_all is_plain (script_places (projects_of settings)) ≡ true
       good_places settings (read, says, judged) =
           subst (λ s. list_all is_plain (script_places (projects_of s)) ≡ true) (sym judged.1) (plain_places (project_paths read) (projects_fine read judged.0))
 
-pub own_say_nothing : {M F Z S A : Type 0} (tables : Tables M F Z S A) → OwnFilesSayNothing tables
+pub own_say_nothing : {M F Z S A : Type 0} (tables : Tables M F Z S A) → OwnFilesDeclareNothing tables
 own_say_nothing tables files given said = (
   folder_stays tables given (others files) files (λ place plain. (blocked_same files place plain, found_same files place plain)) said,
   folder_stays tables given files (others files) (λ place plain. (sym (blocked_same files place plain), sym (found_same files place plain))) said,

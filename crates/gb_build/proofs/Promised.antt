@@ -4,7 +4,7 @@ use Rattle.gb_folder.specs.Calls.{Requests, no_change, Device}
 use Rattle.gb_folder.specs.Files.{Place, Tearing}
 use Rattle.gb_meaning.specs.Edits.{Shown}
 use Rattle.gb_meaning.specs.Events.{IsNotBuilt, is_read_first}
-use Rattle.gb_meaning.specs.Headline.{EventKeeps, HasFailed, answer_of, times_blamed}
+use Rattle.gb_meaning.specs.Headline.{EventKeeps, HasFailed, answer_of, times_attributed}
 use Rattle.gb_meaning.specs.Kinds.{Kinds}
 use Rattle.gb_meaning.specs.declared.events.Event.TheVariants as events
 use Rattle.gb_meaning.specs.declared.events.Invocation.{Invocation}
@@ -57,7 +57,7 @@ module _ {M F Z S A : Type 0} (tables : Tables M F Z S A) (may_leave : Tearing) 
 
 module _ {F M N Z S A : Type 0} (device : Device F) (tables : Tables M N Z S A) (invocation : Invocation) (result : Result Report Fault) (old new : F) where
   -- a refusal
-  pub refusal_does : (fault : Fault) → result ≡ Err fault → Requests device no_change old new → HasFailed (times_blamed (answer_of result)) (device.failures old) (device.failures new)
+  pub refusal_does : (fault : Fault) → result ≡ Err fault → Requests device no_change old new → HasFailed (times_attributed (answer_of result)) (device.failures old) (device.failures new)
       → ((place : Place) → fault ≡ faults.Device place → IsTrue (is_read_first invocation.options place)) → IsInvocation device tables invocation result old new
   refusal_does fault is requests blamed places =
       let asked = refusal_requests device tables invocation result fault old new is requests in

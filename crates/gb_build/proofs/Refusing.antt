@@ -8,7 +8,7 @@ use Rattle.gb_meaning.specs.declared.events.Event.TheVariants as events
 use Rattle.gb_meaning.specs.declared.events.Invocation.{Invocation}
 use Rattle.gb_meaning.specs.Edits.{Shown}
 use Rattle.gb_meaning.specs.Events.{IsNotBuilt, Setting}
-use Rattle.gb_meaning.specs.Headline.{HasFailed, Registering, answer_of, is_of_device, times_blamed}
+use Rattle.gb_meaning.specs.Headline.{HasFailed, Registering, answer_of, is_of_device, times_attributed}
 use Rattle.gb_meaning.specs.TrueRecord.{outside}
 use Rattle.gb_graph.specs.Answer.{IsRefusalOf}
 use Rattle.gb_plan.specs.Graph.{Registry}
@@ -69,12 +69,12 @@ refused_leads setting registry old end invocation fault scripts why same result 
 
 -- ---- The device
 
-unblamed : (fault : Fault) (before after : ℕ) → before ≤ after → is_of_device fault ≡ false → HasFailed (times_blamed (answer_of (Err fault))) before after
+unblamed : (fault : Fault) (before after : ℕ) → before ≤ after → is_of_device fault ≡ false → HasFailed (times_attributed (answer_of (Err fault))) before after
 unblamed fault before after count none = subst (λ (b : Bool). HasFailed (cond b 1 0) before after) (sym none) (inl (omega (arith, count)))
 
 -- a refusal attributes a fault to the device at most once, and then the device failed
 pub refused_fails : (registry : Registry) (invocation : Invocation) (fault : Fault) (before after : ℕ) → NoneBlameDevice registry → before ≤ after
-    → IsNotBegun registry invocation before after fault → HasFailed (times_blamed (answer_of (Err fault))) before after
+    → IsNotBegun registry invocation before after fault → HasFailed (times_attributed (answer_of (Err fault))) before after
 refused_fails registry invocation fault before after none count (inl (inl out)) = unblamed fault before after count (ap is_of_device out)
 refused_fails registry invocation fault before after none count (inl (inr (inl words))) =
     unblamed fault before after count (words_blame_none registry invocation.requested invocation.excluded fault words)
@@ -86,9 +86,9 @@ refused_fails registry invocation fault before after none count (inr (inr device
     subst (λ (b : Bool). HasFailed (cond b 1 0) before after) (sym (ap is_of_device device.2.1)) (risen_once before after count device.2.0)
 
 pub reported_fails : (registry : Registry) (invocation : Invocation) (fault : Fault) (before after : ℕ) → NoneBlameDevice registry → before ≤ after
-    → IsNotBegun registry invocation before after fault → (result : Result Report Fault) → result ≡ Err fault → HasFailed (times_blamed (answer_of result)) before after
+    → IsNotBegun registry invocation before after fault → (result : Result Report Fault) → result ≡ Err fault → HasFailed (times_attributed (answer_of result)) before after
 reported_fails registry invocation fault before after none count why result is =
-    subst (λ (r : Result Report Fault). HasFailed (times_blamed (answer_of r)) before after) (sym is) (refused_fails registry invocation fault before after none count why)
+    subst (λ (r : Result Report Fault). HasFailed (times_attributed (answer_of r)) before after) (sym is) (refused_fails registry invocation fault before after none count why)
 
 -- ---- Places
 

@@ -7,7 +7,7 @@ use Rattle.gb_registry.specs.Projects.{projects_of}
 use Rattle.gb_registry.specs.Source.{source_of}
 use Rattle.gb_registry.specs.Tables.{Tables}
 use Rattle.gb_build.proofs.OneLemmas.{folders_one}
-use Rattle.gb_build.specs.Scripts.{FolderSays, script_places}
+use Rattle.gb_build.specs.Scripts.{FolderDeclares, script_places}
 
 -- the scripts of two projects and of one in a project
 places : script_places (projects_of ((codes "lib:a" ∷ codes "b" ∷ []) ∷ []))
@@ -16,15 +16,15 @@ places = refl
 
 module _ {M F Z S A : Type 0} (tables : Tables M F Z S A) where
   -- a folder without a file declares that the root declares nothing
-  nothing : FolderSays tables [] [] (Ok (source_of [] ([] ∷ []) []))
+  nothing : FolderDeclares tables [] [] (Ok (source_of [] ([] ∷ []) []))
   nothing = ([], ([], inr (refl, refl), (refl, refl)), ([] ∷ [], (inr (refl, refl), tt), (refl, refl)))
 
   -- and has no fault
-  no_fault : (fault : Fault) → FolderSays tables [] [] (Err fault) → ⊥
+  no_fault : (fault : Fault) → FolderDeclares tables [] [] (Err fault) → ⊥
   no_fault fault says = let e = folders_one tables [] [] (Err fault) (Ok (source_of [] ([] ∷ []) [])) says nothing in cc
 
   -- a folder is where the script of the root would be
-  blocked : FolderSays tables ((codes "build.gb/x", []) ∷ []) [] (Err (faults.Blocked (codes "build.gb")))
+  blocked : FolderDeclares tables ((codes "build.gb/x", []) ∷ []) [] (Err (faults.Blocked (codes "build.gb")))
   blocked =
       inr (
         [],
@@ -41,5 +41,5 @@ module _ {M F Z S A : Type 0} (tables : Tables M F Z S A) where
       )
 
   -- one is where settings would be, which comes first
-  blocked_settings : FolderSays tables ((codes "build.gb/x", []) ∷ (codes "settings.gb/x", []) ∷ []) [] (Err (faults.Blocked (codes "settings.gb")))
+  blocked_settings : FolderDeclares tables ((codes "build.gb/x", []) ∷ (codes "settings.gb/x", []) ∷ []) [] (Err (faults.Blocked (codes "settings.gb")))
   blocked_settings = inl (inl (inl (refl, refl)))

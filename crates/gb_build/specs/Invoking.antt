@@ -6,7 +6,7 @@ use Rattle.gb_folder.specs.Files.{Place, Tearing}
 use Rattle.gb_meaning.specs.Edits.{Shown}
 use Rattle.gb_meaning.specs.Events.{IsNotBuilt, is_read_first}
 use Rattle.gb_meaning.specs.Every.{PromiseHolds}
-use Rattle.gb_meaning.specs.Headline.{EventKeeps, HasFailed, InvocationHolds, answer_of, times_blamed}
+use Rattle.gb_meaning.specs.Headline.{EventKeeps, HasFailed, InvocationHolds, answer_of, times_attributed}
 use Rattle.gb_meaning.specs.Kinds.{Kinds}
 use Rattle.gb_meaning.specs.declared.events.Event.TheVariants as events
 use Rattle.gb_meaning.specs.declared.events.Invocation.{Invocation}
@@ -37,7 +37,7 @@ pub record IsInvocation {F M N Z S A : Type 0} (device : Device F) (tables : Tab
       → IsTrue (is_read_first invocation.options place))
   -- Faults are attributed to the device no more often than it failed, as long as the folder's count of
   -- failures is below 2^64 - 1, the last value that it can have.
-  pub blame : HasFailed (times_blamed (answer_of answer)) (device.failures old) (device.failures new)
+  pub blame : HasFailed (times_attributed (answer_of answer)) (device.failures old) (device.failures new)
 
 -- Where contents are known: the promise. Only the last three need an assumption, about the kinds and the
 -- device.
@@ -53,7 +53,7 @@ pub record KeepsPromise {M F Z S A : Type 0} (tables : Tables M F Z S A) (may_le
   -- nothing changes but `.gb` and the build folders of the projects
   pub keeps : EventKeeps (registers_in tables) (events.Invoke invocation) (answer_of answer) old.contents
       new.contents
-  -- it continues any run of events that has led to the old state, whatever that run remembers
+  -- it continues any list of events that has led to the old state, whatever is remembered of that
   pub continues : (kinds : Kinds) → IsAssumed tables.shapes tables.kinds kinds may_leave
       → IsTransition (setting_of tables kinds may_leave) old (events.Invoke invocation) (answer_of answer) new
   -- from any true records that the folder holds, it is a run of one event by the definitions

@@ -30,8 +30,8 @@ pub record LeadsTo (setting : Setting) (clear : Bool) (observed : List Bytes) (o
   pub exists : StillClear setting (IsTrue clear) old (observed_with observed old (state_of new remembered))
       → HoldsObserved setting (observed ++ contents_outside old.contents) (state_of new remembered)
 
--- An event leads from what a folder shows to what it shows then, from whatever is remembered. The premise:
--- true records of it exist in the folder, if all was collision-free before.
+-- An event leads from what a folder shows to what it shows then, starting from any remembered records. The
+-- premise: true records of these exist in the folder, if all was collision-free before.
 abbrev pub IsTransition : Setting → Shown → Event → Answer → Shown → Type 0
 IsTransition setting old event answer new =
     (remembered : Memory) (clear : Bool) (observed : List Bytes)

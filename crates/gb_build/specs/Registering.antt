@@ -8,13 +8,13 @@ use Rattle.gb_meaning.specs.Kinds.{Kinds}
 use Rattle.gb_records.specs.Setting.{setting_by}
 use Rattle.gb_registry.specs.Source.{Source}
 use Rattle.gb_registry.specs.Tables.{Tables}
-use Rattle.gb_build.specs.Scripts.{FolderSays}
+use Rattle.gb_build.specs.Scripts.{FolderDeclares}
 
 -- what the scripts of a folder register with these tables: the tasks that they declare, or their first fault
 abbrev pub registers_in : {M F Z S A : Type 0} → Tables M F Z S A → Registering
 registers_in tables files given (Ok registry) =
-    (source : Source) × FolderSays tables files given (Ok source) × (registry ≡ registry_said tables source)
-registers_in tables files given (Err fault) = FolderSays tables files given (Err fault)
+    (source : Source) × FolderDeclares tables files given (Ok source) × (registry ≡ registry_said tables source)
+registers_in tables files given (Err fault) = FolderDeclares tables files given (Err fault)
 
 -- the setting of an invocation, with records as they are in a folder
 abbrev pub setting_of : {M F Z S A : Type 0} → Tables M F Z S A → Kinds → Tearing → Setting

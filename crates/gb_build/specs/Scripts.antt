@@ -34,8 +34,8 @@ is_script_place place =
 -- ---- What they declare
 
 -- what the settings of a folder declare, where nothing is wrong with what they include; or their first fault
-abbrev pub SettingsSay : Files → Result (List (List (List ℕ))) Fault → Type 0
-SettingsSay files said =
+abbrev pub SettingsDeclare : Files → Result (List (List (List ℕ))) Fault → Type 0
+SettingsDeclare files said =
     InTurn (TextSays SaysAsSettings files settings_place)
     (λ settings. Passes (settings_faults settings) settings)
     said
@@ -55,21 +55,21 @@ pub record IsFirstFault (files : Files) (places : List Place) (fault : Fault) : 
   pub here : TextSays Says files place (Err fault)
 
 -- what the scripts at these places declare, a text for each; or their first fault
-abbrev pub ScriptsSay : Files → List Place → Result (List (List Statement)) Fault → Type 0
-ScriptsSay files places (Ok texts) = AreTexts files places texts
-ScriptsSay files places (Err fault) = IsFirstFault files places fault
+abbrev pub ScriptsDeclare : Files → List Place → Result (List (List Statement)) Fault → Type 0
+ScriptsDeclare files places (Ok texts) = AreTexts files places texts
+ScriptsDeclare files places (Err fault) = IsFirstFault files places fault
 
 -- what all of these together declare, where nothing is wrong with its statements; or their first fault
-abbrev pub SourceSays : {M F Z S A : Type 0} → Tables M F Z S A → Source → Result Source Fault → Type 0
-SourceSays tables source said = Passes (configure_faults tables source) source said
+abbrev pub SourceDeclares : {M F Z S A : Type 0} → Tables M F Z S A → Source → Result Source Fault → Type 0
+SourceDeclares tables source said = Passes (configure_faults tables source) source said
 
 -- What a folder declares, with these values given: what its settings and the scripts of their projects
 -- declare. Of all faults the first counts: one of the text of settings, of what they include, of the text of
 -- a script in the order of projects, and then of their statements.
-abbrev pub FolderSays : {M F Z S A : Type 0} → Tables M F Z S A → Files → List (List ℕ × List ℕ)
+abbrev pub FolderDeclares : {M F Z S A : Type 0} → Tables M F Z S A → Files → List (List ℕ × List ℕ)
     → Result Source Fault → Type 0
-FolderSays tables files given said =
-    InTurn (SettingsSay files)
-    (λ settings. InTurn (ScriptsSay files (script_places (projects_of settings)))
-    (λ texts. SourceSays tables (source_of settings texts given)))
+FolderDeclares tables files given said =
+    InTurn (SettingsDeclare files)
+    (λ settings. InTurn (ScriptsDeclare files (script_places (projects_of settings)))
+    (λ texts. SourceDeclares tables (source_of settings texts given)))
     said

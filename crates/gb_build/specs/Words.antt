@@ -10,12 +10,12 @@ pub use Rattle.gb_build.specs.Leading.{IsTransition}
 pub use Rattle.gb_exec.specs.Notifying.{Refuses}
 pub use Rattle.gb_meaning.specs.Edits.{Shown}
 pub use Rattle.gb_meaning.specs.Events.{IsBuild, IsNotBuilt, Setting, State, has_failure, is_read_first}
-pub use Rattle.gb_meaning.specs.Every.{IsFromScratch, PlainRun, PromiseHolds, Succeeds}
-pub use Rattle.gb_meaning.specs.Assumed.{MemoryGrants, SomeKindsAgree, leaves_nothing}
+pub use Rattle.gb_meaning.specs.Every.{IsFromScratch, UnconditionalRun, PromiseHolds, Succeeds}
+pub use Rattle.gb_meaning.specs.Assumed.{PremisesHoldInMemory, SomeKindsAgree, leaves_nothing}
 pub use Rattle.gb_meaning.specs.Headline.{Agrees, AllKeepElsewhere, Ear, EventKeeps, EventsHold}
 pub use Rattle.gb_meaning.specs.Headline.{HasFailed, HaveHeard, HaveHeardAll, HearsAll, InvocationHolds}
-pub use Rattle.gb_meaning.specs.Headline.{HoldsMemory, TornWritesAreDetected, answer_of, times_blamed}
-pub use Rattle.gb_meaning.specs.Headline.{times_blamed_in_all}
+pub use Rattle.gb_meaning.specs.Headline.{HoldsMemory, TornWritesAreDetected, answer_of, times_attributed}
+pub use Rattle.gb_meaning.specs.Headline.{times_attributed_in_all}
 pub use Rattle.gb_meaning.specs.Kinds.{Kind, Kinds}
 pub use Rattle.gb_meaning.specs.Memory.{Memory}
 pub use Rattle.gb_meaning.specs.Scratch.{from_scratch}

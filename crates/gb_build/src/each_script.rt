@@ -7,7 +7,7 @@ ghost use Rattle.gb_folder.specs.Calls.{OnlyReads};
 ghost use Rattle.gb_script.specs.Script.{Says};
 ghost use Rattle.gb_folder.specs.Faults.{Blames, BlamesOnly, IsOfMachine};
 ghost use Rattle.gb_build.specs.Found.{WasParsed, WereParsed};
-ghost use Rattle.gb_build.specs.Scripts.{ScriptsSay, is_script_place, script_place, script_places};
+ghost use Rattle.gb_build.specs.Scripts.{ScriptsDeclare, is_script_place, script_place, script_places};
 ghost use Rattle.gb_build.specs.Texts.{Reports, TextSays};
 
 use crate::one_script::script_at;
@@ -30,10 +30,10 @@ pub fn read_scripts<F: Folder>(
     ensures blamed { BlamesOnly is_script_place result }
     ensures one_each { IfOk result (λ scripts. length scripts.items ≡ length projects.now) }
     ensures said { F.device.faithful folder.new → MatchResult result
-        (λ scripts. ScriptsSay (F.device.contents folder.old).files (script_places projects.now)
+        (λ scripts. ScriptsDeclare (F.device.contents folder.old).files (script_places projects.now)
         (Ok scripts.items))
         (λ fault. IsOfMachine (F.device.failures folder.old) (F.device.failures folder.new) fault
-        ⊎ ScriptsSay (F.device.contents folder.old).files (script_places projects.now) (Err fault)) }
+        ⊎ ScriptsDeclare (F.device.contents folder.old).files (script_places projects.now) (Err fault)) }
     // Over any folder: calls returned these texts.
     ensures parsed { IfOk result (λ scripts. WereParsed F.device folder.old
         folder.new (script_places projects.now) scripts.items) }

@@ -2,8 +2,8 @@
 ghost use Rattle.std.specs.Prelude.{◌≡◌, [], ◌∷◌, IfOk, OnErr, length, map};
 ghost use Rattle.gb_meaning.specs.Every.{PromiseHolds};
 ghost use Rattle.gb_meaning.specs.Headline.{AllKeepElsewhere, EventKeeps, EventsHold, HaveHeardAll};
-ghost use Rattle.gb_meaning.specs.Headline.{HasFailed, answer_of, times_blamed};
-ghost use Rattle.gb_meaning.specs.Headline.{times_blamed_in_all};
+ghost use Rattle.gb_meaning.specs.Headline.{HasFailed, answer_of, times_attributed};
+ghost use Rattle.gb_meaning.specs.Headline.{times_attributed_in_all};
 ghost use Rattle.gb_meaning.specs.Kinds.{Kinds};
 ghost use Rattle.gb_records.specs.Assumed.{IsAssumed};
 ghost use Rattle.gb_registry.specs.Tables.{tables_of};
@@ -48,17 +48,18 @@ pub fn run_events<A: Actions, T: Transforms, F: Folder, L: TaskListener>(
     // Faults are attributed to the device no more often than it failed, while the folder's count of
     // failures is below 2^64 - 1.
     ensures device { IfOk result (λ answers.
-        HasFailed (times_blamed_in_all answers.items) (F.device.failures folder.old)
+        HasFailed (times_attributed_in_all answers.items) (F.device.failures folder.old)
         (F.device.failures folder.new)) }
     // Each listener was notified of the builds, one after another.
     ensures heard { IfOk result (λ answers.
         HaveHeardAll answers.items (map L.ear listeners.old.items) (map L.ear listeners.new.items)) }
-    // Whatever fails, a build changes nothing but `.gb` and the build folders of its projects.
+    // Where contents are known: whatever fails, a build changes nothing but `.gb` and the build
+    // folders of its projects.
     ensures elsewhere { F.device.faithful folder.new → IfOk result (λ answers.
         AllKeepElsewhere (registers_in (tables_of T.meanings A.meanings tables.now)) events.now answers.items
         (F.device.contents folder.old) (F.device.contents folder.new)) }
-    // If kinds agree and a stopped write leaves no false record (`IsAssumed`), this is a run of the
-    // events by its definition.
+    // Where contents are known, kinds agree and a stopped write leaves no false record
+    // (`IsAssumed`), this is a run of the events by its definition.
     ensures holds { F.device.faithful folder.new → IfOk result (λ answers. (kinds : Kinds)
         → IsAssumed A.meanings tables.now.actions kinds (F.device.may_leave folder.old)
         → EventsHold
@@ -94,7 +95,7 @@ fn take<A: Actions, T: Transforms, F: Folder, L: TaskListener>(
 ) -> Answer
     ensures requests { EventRequests F.device
         (tables_of T.meanings A.meanings tables.now) event.now result folder.old folder.new }
-    ensures device { HasFailed (times_blamed result) (F.device.failures folder.old)
+    ensures device { HasFailed (times_attributed result) (F.device.failures folder.old)
         (F.device.failures folder.new) }
     ensures heard { HaveHeardAll (result ∷ []) (map L.ear listeners.old.items)
         (map L.ear listeners.new.items) }

@@ -5,7 +5,7 @@ ghost use Rattle.gb_declare.specs.Registered.{registry_said};
 ghost use Rattle.gb_folder.specs.Files.{is_own};
 ghost use Rattle.gb_meaning.specs.declared.events.Event.TheVariants as events;
 ghost use Rattle.gb_meaning.specs.Headline.{HaveHeard, KeepsElsewhere};
-ghost use Rattle.gb_meaning.specs.Headline.{HasFailed, answer_of, times_blamed};
+ghost use Rattle.gb_meaning.specs.Headline.{HasFailed, answer_of, times_attributed};
 ghost use Rattle.gb_meaning.specs.Kinds.{Kinds};
 ghost use Rattle.gb_plan.specs.Graph.{IsRegistry};
 ghost use Rattle.gb_printer.specs.Printing.{Prints, parts_text};
@@ -49,11 +49,13 @@ pub fn invoke<A: Actions, T: Transforms, F: Folder, L: TaskListener, P: Printer>
     listeners: &mut Vec<L>,
     printer: &mut P,
 ) -> Result<Report, Fault>
-    // Over any folder: the calls of the invocation, and what its answer may be.
+    // Over any folder: which changes the invocation asks for, on which reads these rest, and what its
+    // answer may be.
     ensures does { IsInvocation F.device
         (tables_of T.meanings A.meanings tables.now) invocation.now result folder.old folder.new }
-    // Where contents are known: the promise. Success is as from scratch if kinds agree, a stopped
-    // write leaves no false record, the first records are true, and no two contents share a digest.
+    // Where contents are known: what it promises of them. A build in which no task failed leaves what
+    // one from scratch makes, if kinds agree, a stopped write leaves no false record, the first
+    // records are true, and no two contents share a digest.
     ensures promise { F.device.faithful folder.new → KeepsPromise (tables_of T.meanings A.meanings tables.now)
         (F.device.may_leave folder.old) invocation.now
         (record { contents = F.device.contents folder.old; failures = F.device.failures folder.old }) result
@@ -63,7 +65,7 @@ pub fn invoke<A: Actions, T: Transforms, F: Folder, L: TaskListener, P: Printer>
     ensures heard { IfOk result (λ report.
         HaveHeard report (map L.ear listeners.old.items) (map L.ear listeners.new.items)) }
     ensures unnotified { OnErr result (listeners.new ≡ listeners.old) }
-    // The parts of its tasks were printed; or a beginning of them, where they could not be.
+    // The parts of its tasks were printed, or a beginning of them.
     ensures printed { IfOk result (λ report.
         Prints P.contents P.whole (parts_text report) printer.old printer.new) }
     ensures unprinted { OnErr result (printer.new ≡ printer.old) }
@@ -92,7 +94,7 @@ fn build_registered<A: Actions, T: Transforms, F: Folder, L: TaskListener, P: Pr
         Prints P.contents P.whole (parts_text report) printer.old printer.new) }
     ensures unprinted { OnErr result (printer.new ≡ printer.old) }
     // Faults are attributed to the device no more often than it failed.
-    ensures device { HasFailed (times_blamed (answer_of result))
+    ensures device { HasFailed (times_attributed (answer_of result))
         (F.device.failures folder.old) (F.device.failures folder.new) }
     ensures requests { let tables = tables_of T.meanings A.meanings configured.now.tables.now in
         BuildRequests F.device A.meanings configured.now.tables.now.actions

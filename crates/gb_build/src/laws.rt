@@ -13,7 +13,7 @@ ghost use Rattle.gb_report.specs.declared.fault.Fault.{Fault};
 ghost use Rattle.gb_report.specs.declared.report.Report.{Report};
 ghost use Rattle.gb_build.specs.EventAsked.{EventsRequest};
 ghost use Rattle.gb_build.specs.Invoking.{IsInvocation};
-ghost use Rattle.gb_build.specs.Laws.{FoldersSayOneThing, OwnFilesSayNothing};
+ghost use Rattle.gb_build.specs.Laws.{FoldersDeclareOneThing, OwnFilesDeclareNothing};
 ghost use Rattle.gb_build.specs.Registering.{setting_of};
 
 use gb_action::actions::Actions;
@@ -21,13 +21,13 @@ use gb_folder::folder::Folder;
 use gb_provider::transforms::Transforms;
 
 /// A folder declares one thing: what its scripts register, or one fault.
-pub fn folders_say_one_thing<A: Actions, T: Transforms>()
-    ensures { (tables : Tables T.Map T.FlatMap T.Zip T.Test A.Stored) → FoldersSayOneThing tables }
+pub fn folders_declare_one_thing<A: Actions, T: Transforms>()
+    ensures { (tables : Tables T.Map T.FlatMap T.Zip T.Test A.Stored) → FoldersDeclareOneThing tables }
 {}
 
 /// The tool's own files have no effect: a folder declares the same without them.
-pub fn own_files_say_nothing<A: Actions, T: Transforms>()
-    ensures { (tables : Tables T.Map T.FlatMap T.Zip T.Test A.Stored) → OwnFilesSayNothing tables }
+pub fn own_files_declare_nothing<A: Actions, T: Transforms>()
+    ensures { (tables : Tables T.Map T.FlatMap T.Zip T.Test A.Stored) → OwnFilesDeclareNothing tables }
 {}
 
 /// What the scripts of a folder declare and what is requested of them determine one plan. So the

@@ -43,9 +43,11 @@
 //!   is below 2^64 - 1, no more faults are attributed to the device than it had, and never one of a
 //!   script or a task.
 //!
-//! Laws: `folders_say_one_thing` (a folder declares one thing, or has one fault),
-//! `own_files_say_nothing` (the files of `.gb` do not count for that), `scripts_give_one_plan` (so
+//! Laws: `folders_declare_one_thing` (a folder declares one thing, or has one fault),
+//! `own_files_declare_nothing` (the files of `.gb` do not count for that), `scripts_give_one_plan` (so
 //! the premise of `states_are_one` holds of scripts).
+//!
+//! What was set aside: `docs/DECISIONS.md#executions-and-runs`.
 #![tactic(auto)]
 
 mod before;

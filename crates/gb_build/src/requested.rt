@@ -3,7 +3,7 @@ ghost use Rattle.std.specs.Prelude.{◌≡◌, ◌≤◌, Ok, map, true, IfErr, 
 ghost use Rattle.gb_folder.specs.Calls.{WhereKnown};
 ghost use Rattle.gb_meaning.specs.declared.events.Event.TheVariants as events;
 ghost use Rattle.gb_meaning.specs.Headline.{HasFailed, HaveHeard, InvocationHolds};
-ghost use Rattle.gb_meaning.specs.Headline.{answer_of, is_of_build, times_blamed};
+ghost use Rattle.gb_meaning.specs.Headline.{answer_of, is_of_build, times_attributed};
 ghost use Rattle.gb_meaning.specs.Kinds.{Kinds};
 ghost use Rattle.gb_meaning.specs.TrueRecord.{outside};
 ghost use Rattle.gb_printer.specs.Printing.{Prints, parts_text};
@@ -52,14 +52,14 @@ pub fn build_requested<A: Actions, F: Folder, L: TaskListener, P: Printer, Ts: T
     ensures heard { IfOk result (λ report.
         HaveHeard report (map L.ear listeners.old.items) (map L.ear listeners.new.items)) }
     ensures unnotified { OnErr result (listeners.new ≡ listeners.old) }
-    // The parts of its tasks were printed; or a beginning of them, where they could not be.
+    // The parts of its tasks were printed, or a beginning of them.
     ensures printed { IfOk result (λ report.
         Prints P.contents P.whole (parts_text report) printer.old printer.new) }
     ensures unprinted { OnErr result (printer.new ≡ printer.old) }
     // Faults are attributed to the device no more often than it failed, if no script's fault is
     // attributed to it.
     ensures device { NoneBlameDevice (Ts.registry tasks.old)
-        → HasFailed (times_blamed (answer_of result)) (F.device.failures folder.old)
+        → HasFailed (times_attributed (answer_of result)) (F.device.failures folder.old)
         (F.device.failures folder.new) }
     // Over any folder: which tasks start, which outcomes are possible for each, which changes it
     // requests, and which records it stores.

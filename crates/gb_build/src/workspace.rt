@@ -6,7 +6,7 @@ ghost use Rattle.gb_script.specs.Script.{SaysAsSettings};
 ghost use Rattle.gb_folder.specs.Changes.{is_at};
 ghost use Rattle.gb_folder.specs.Faults.{Blames, BlamesOnly, IsOfMachine};
 ghost use Rattle.gb_build.specs.Found.{IsDeclared, WasParsed};
-ghost use Rattle.gb_build.specs.Scripts.{FolderSays, is_script_place, settings_place};
+ghost use Rattle.gb_build.specs.Scripts.{FolderDeclares, is_script_place, settings_place};
 ghost use Rattle.gb_build.specs.Texts.{Reports, TextSays};
 
 use crate::each_script::read_scripts;
@@ -44,12 +44,13 @@ pub fn read_registry<'a, A: Actions, T: Transforms, F: Folder>(
     ensures blame { Blames result (F.device.failures folder.old) (F.device.failures folder.new) }
     ensures blamed { BlamesOnly is_script_place result }
     ensures tables { IfOk result (λ configured. configured.tables.now ≡ tables.now) }
-    // Where contents are known, the result is what the scripts in them say, or a fault of the machine.
+    // Where contents are known, the result is what the scripts in them declare, or a fault of the
+    // machine.
     ensures said { F.device.faithful folder.new → MatchResult result
-        (λ configured. FolderSays (tables_of T.meanings A.meanings tables.now)
+        (λ configured. FolderDeclares (tables_of T.meanings A.meanings tables.now)
         (F.device.contents folder.old).files given.items (Ok configured.registry))
         (λ fault. IsOfMachine (F.device.failures folder.old) (F.device.failures folder.new) fault
-        ⊎ FolderSays (tables_of T.meanings A.meanings tables.now)
+        ⊎ FolderDeclares (tables_of T.meanings A.meanings tables.now)
         (F.device.contents folder.old).files given.items (Err fault)) }
     // Over any folder: calls returned the texts of what is declared.
     ensures declared { IfOk result (λ configured. IsDeclared F.device
@@ -67,7 +68,7 @@ pub fn read_settings_of<F: Folder>(alloc: Global, folder: &mut F) -> Result<Sett
     ensures reads { OnlyReads F.device folder.old folder.new }
     ensures blame { Blames result (F.device.failures folder.old) (F.device.failures folder.new) }
     ensures blamed { BlamesOnly (is_at settings_place) result }
-    // Where contents are known, the result is what the file says, or a fault of the machine.
+    // Where contents are known, the result is what the file declares, or a fault of the machine.
     ensures said { F.device.faithful folder.new
         → Reports (TextSays SaysAsSettings (F.device.contents folder.old).files settings_place)
         (F.device.failures folder.old) (F.device.failures folder.new) result }

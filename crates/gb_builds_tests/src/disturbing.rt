@@ -5,7 +5,8 @@ use gb_folder::memory::MemoryFolder;
 use std::alloc::Global;
 use std::test::Fail;
 
-/// A folder whose contents are not known: the file at one place is another one at each call.
+/// A folder whose contents are not known. The file at one place is another one at each call: `A`
+/// at the first one, `B` at the second one, and so on.
 #[derive(Drop)]
 pub struct Disturbed {
     inner: MemoryFolder,
@@ -24,8 +25,8 @@ impl Disturbed {
     }
 
     fn disturb(&mut self) {
+        let bytes = [b'A'.wrapping_add(self.calls)];
         self.calls = self.calls.wrapping_add(1);
-        let bytes = [self.calls];
         let _ = self.inner.write(&self.place, &bytes, 1);
     }
 }

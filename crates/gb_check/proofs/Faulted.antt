@@ -1,5 +1,5 @@
 -- The mark of a clause with a fault.
-use Rattle.std.proofs.Common.{ℕ, ◌≡◌, ◌≢◌, ◌⊎◌, ◌++◌, ◌∷◌, List, [], Result, Ok, Err, inl, inr}
+use Rattle.std.proofs.Common.{ℕ, ◌≡◌, ◌≢◌, ◌++◌, ◌∷◌, List, [], Result, Ok, Err, inl, inr}
 use Rattle.std.specs.Prelude.{OnOk}
 use Rattle.gb_check.specs.Marks.{fault_marks, mark}
 use Rattle.gb_check.specs.declared.clause_lines.ClauseMark.{ClauseMark}

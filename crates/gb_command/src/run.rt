@@ -42,9 +42,9 @@ pub fn run<A: Actions, T: Transforms, F: Folder, W: Printer>(
 ) -> Option<u8>
     ensures count { F.device.failures folder.old ≤ F.device.failures folder.new }
     ensures back { F.device.faithful folder.new → F.device.faithful folder.old }
-    // There is an answer to these arguments: where contents are known, as `Answers` says, and over
-    // any folder as `DoesFor` says. With a status, the status is its own, and on a page whose
-    // contents are known its text and nothing else is printed; without one, a beginning of its text.
+    // Some answer fits these arguments: where contents are known, as `Answers` says, and over any
+    // folder as `DoesFor` says. A status that is returned is the status of this answer, and on a page
+    // whose contents are known just its text is printed; without a status, a beginning of its text.
     ensures reported { (answer : Result Report Fault)
         × (F.device.faithful folder.new → Answers (tables_of T.meanings A.meanings tables.now)
         (F.device.may_leave folder.old)

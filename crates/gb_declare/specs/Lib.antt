@@ -20,3 +20,13 @@ pub mod Ready
 pub mod Kept
 pub mod Known
 pub mod Registered
+pub mod Site
+pub mod Nodes
+pub mod Wrong
+pub mod Grown
+pub mod Statements
+pub mod Changing
+pub mod Scripts
+pub mod Laid
+pub mod Complete
+pub mod NodesInTable

@@ -10,7 +10,7 @@ use Rattle.gb_report.specs.declared.fault.Fault.TheVariants as faults
 use Rattle.gb_report.specs.declared.report.Outcome.{Outcome}
 use Rattle.gb_report.specs.declared.report.Outcome.TheVariants as outcomes
 use Rattle.gb_report.specs.declared.report.TaskReport.{TaskReport}
-use Rattle.gb_exec.specs.Failing.{times_blamed}
+use Rattle.gb_exec.specs.Failing.{times_attributed}
 
 abbrev pub with_blame : ℕ → TaskReport → ℕ
 with_blame count report = count + cond (failed_by_device report.outcome) 1 0
@@ -19,7 +19,7 @@ blamed_from : (count : ℕ) (done : List TaskReport) (report : TaskReport) → f
 blamed_from count [] report = refl
 blamed_from count (first ∷ done) report = blamed_from (with_blame count first) done report
 
-blamed_more : (done : List TaskReport) (report : TaskReport) → times_blamed (done ++ report ∷ []) ≡ times_blamed done + cond (failed_by_device report.outcome) 1 0
+blamed_more : (done : List TaskReport) (report : TaskReport) → times_attributed (done ++ report ∷ []) ≡ times_attributed done + cond (failed_by_device report.outcome) 1 0
 blamed_more done report = blamed_from 0 done report
 
 of_device : (fault : Fault) → is_of_device fault ≡ true → (place : Place) × (fault ≡ faults.Device place)
@@ -92,7 +92,7 @@ one_more outcome n before mid after so_far count blame = by (failed_by_device ou
     by true e = let at = by_device outcome e in risen so_far (blame at.0 at.1)
     by false e = later so_far
 
-pub failed_more : (done : List TaskReport) (report : TaskReport) (before mid after : ℕ) → HasFailed (times_blamed done) before mid → mid ≤ after
-    → ((place : Place) → report.outcome ≡ outcomes.Failed (faults.Device place) → HasRisen mid after) → HasFailed (times_blamed (done ++ report ∷ [])) before after
+pub failed_more : (done : List TaskReport) (report : TaskReport) (before mid after : ℕ) → HasFailed (times_attributed done) before mid → mid ≤ after
+    → ((place : Place) → report.outcome ≡ outcomes.Failed (faults.Device place) → HasRisen mid after) → HasFailed (times_attributed (done ++ report ∷ [])) before after
 failed_more done report before mid after so_far count blame =
-    subst (λ (n : ℕ). HasFailed n before after) (sym (blamed_more done report)) (one_more report.outcome (times_blamed done) before mid after so_far count blame)
+    subst (λ (n : ℕ). HasFailed n before after) (sym (blamed_more done report)) (one_more report.outcome (times_attributed done) before mid after so_far count blame)

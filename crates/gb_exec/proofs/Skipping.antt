@@ -13,7 +13,7 @@ use Rattle.gb_report.specs.declared.report.Options.{Options}
 use Rattle.gb_task.specs.Executing.{Registering, setting_with}
 use Rattle.gb_exec.specs.Built.{HasBuilt}
 use Rattle.gb_meaning.specs.Headline.{HasFailed}
-use Rattle.gb_exec.specs.Failing.{times_blamed}
+use Rattle.gb_exec.specs.Failing.{times_attributed}
 use Rattle.gb_exec.specs.Reports.{IsOf}
 use Rattle.gb_exec.proofs.Counting.{with_blame}
 
@@ -25,10 +25,10 @@ none_from : (count : ℕ) (plan : List Planned) → fold with_blame count (dry_r
 none_from count [] = refl
 none_from count (planned ∷ plan) = none_from (count + 0) plan ∙ add-zero count
 
-none_blamed : (plan : List Planned) → times_blamed (dry_reports plan) ≡ 0
+none_blamed : (plan : List Planned) → times_attributed (dry_reports plan) ≡ 0
 none_blamed plan = none_from 0 plan
 
-pub dry_blames : (plan : List Planned) (before : ℕ) → HasFailed (times_blamed (dry_reports plan)) before before
+pub dry_blames : (plan : List Planned) (before : ℕ) → HasFailed (times_attributed (dry_reports plan)) before before
 dry_blames plan before = subst (λ (n : ℕ). HasFailed n before before) (sym (none_blamed plan)) (inl (omega arith))
 
 pub dry_built : (kinds : Kinds) (registry_of : Registering) (may_leave : Tearing) (clear : Bool) (observed : List Bytes) (options : Options) (plan : Plan) (old : State)

@@ -1,5 +1,5 @@
 -- The tasks of a plan one after another: those before a number, the one of the number, and those after it.
-use Rattle.std.specs.Prelude.{ℕ, ◌≡◌, ◌<◌, ◌+◌, ◌-◌, ◌||◌, ◌&&◌, Bool, true, false, not, cond, List, [], ◌∷◌, ◌++◌, bytes_eq, length, slice_get, Some}
+use Rattle.std.specs.Prelude.{ℕ, ◌≡◌, ◌<◌, ◌+◌, ◌-◌, ◌&&◌, Bool, true, false, not, cond, List, [], ◌∷◌, ◌++◌, bytes_eq, length, slice_get, Some}
 use Rattle.std.specs.List.{AllByRecursion, AllZip, list_any}
 use Rattle.std.proofs.Common.{zero, suc, refl, sym, ap, subst, ◌∙◌, arith, drop, take, get_or, take-append-drop}
 use Rattle.std.proofs.lemmas.List.{drop_more, length-drop, length-map, take_more}

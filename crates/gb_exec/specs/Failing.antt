@@ -4,5 +4,5 @@ use Rattle.gb_meaning.specs.Headline.{failed_by_device}
 use Rattle.gb_report.specs.declared.report.TaskReport.{TaskReport}
 
 -- how many tasks failed by the device
-abbrev pub times_blamed : List TaskReport → ℕ
-times_blamed reports = count_by (λ report. failed_by_device report.outcome) reports
+abbrev pub times_attributed : List TaskReport → ℕ
+times_attributed reports = count_by (λ report. failed_by_device report.outcome) reports

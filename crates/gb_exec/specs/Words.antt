@@ -2,7 +2,7 @@
 pub use Rattle.gb_exec.specs.Asking.{ExecutionsRequest}
 pub use Rattle.gb_exec.specs.Building.{CanBuild, is_of_executions}
 pub use Rattle.gb_exec.specs.Built.{AreTrueBefore, HasBuilt}
-pub use Rattle.gb_exec.specs.Failing.{times_blamed}
+pub use Rattle.gb_exec.specs.Failing.{times_attributed}
 pub use Rattle.gb_exec.specs.Reports.{IsOf}
 pub use Rattle.gb_folder.specs.Calls.{Requests}
 pub use Rattle.gb_folder.specs.Files.{Bytes, Contents}

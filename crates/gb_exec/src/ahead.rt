@@ -1,4 +1,4 @@
-//! Which files are read before it is the turn of their task.
+//! Which files are read ahead of the execution of their task.
 //!
 //! A task of few files has no four to digest at a time. So while nothing is out of date, the files
 //! of up to 8 tasks are read at once. Only speed depends on which tasks these are. After a change
@@ -90,7 +90,7 @@ fn has_record(records: &[Option<Record>], index: usize) -> bool {
 }
 
 /// Adds the places of the tasks from this number on, up to the end or until there are
-/// enough. Returns the number of the first task that was not looked at.
+/// enough. Returns the number of the first task whose places were not added.
 fn add_tasks<S>(places: &mut Vec<Place>, build: &Build<'_, S>, from: usize, end: usize) -> usize {
     for index in from..end {
         if places.len() >= PLACES {

@@ -1,4 +1,9 @@
 //! A build of a plan.
+//!
+//! What may fail comes first: the paths, the tables that decide which task starts, and the room for
+//! the reports. Then the main loop runs ([`executions`](crate::executions)), which does not fail:
+//! if memory runs out in it, that is the failure of a task. A dry run ends before it, with a report
+//! of each task as skipped.
 ghost use Rattle.std.specs.Prelude.{◌≡◌, ◌≤◌, Bool, List, true, not, map, length, IfOk, IsTrue, OnErr};
 ghost use Rattle.std.specs.List.{AllZip};
 ghost use Rattle.gb_folder.specs.Calls.{Requests, changes_at};
@@ -14,7 +19,7 @@ ghost use Rattle.gb_task.specs.Executing.{Registering, setting_with};
 ghost use Rattle.gb_exec.specs.Asking.{ExecutionsRequest};
 ghost use Rattle.gb_exec.specs.Building.{CanBuild, is_of_executions};
 ghost use Rattle.gb_exec.specs.Built.{AreTrueBefore, HasBuilt};
-ghost use Rattle.gb_exec.specs.Failing.{times_blamed};
+ghost use Rattle.gb_exec.specs.Failing.{times_attributed};
 ghost use Rattle.gb_exec.specs.Reports.{IsOf};
 
 use crate::dry::dry_reports;
@@ -58,9 +63,11 @@ pub fn execute<A: Actions, F: Folder, L: TaskListener, P: Printer>(
     ensures of_tasks { IfOk result (λ report. AllZip IsOf plan.now report.tasks) }
     // Over any folder: which tasks start, and which outcomes are possible for each.
     ensures outline { IfOk result (λ report. Outlines options plan.now report.tasks) }
+    // Each listener was notified of the start and the end of each started task once, in the order
+    // of the report; a notification that it refused is counted.
     ensures heard { IfOk result (λ report.
         HaveHeard report (map L.ear listeners.old.items) (map L.ear listeners.new.items)) }
-    // The parts of its tasks were printed; or a beginning of them, where they could not be.
+    // The parts of its tasks were printed, or a beginning of them.
     ensures printed { IfOk result (λ report.
         Prints P.contents P.whole (parts_text report) printer.old printer.new) }
     // Over any folder: task after task, each from the state in which the one before it ended, makes
@@ -69,15 +76,16 @@ pub fn execute<A: Actions, F: Folder, L: TaskListener, P: Printer>(
     ensures requests { IfOk result (λ report. ExecutionsRequest F.device A.meanings
         table.now
         options plan.now records.now report.tasks folder.old folder.old folder.new) }
-    // Faults are attributed to the device no more often than it failed.
+    // Faults are attributed to the device no more often than it failed, while the folder's count of
+    // failures is below 2^64 - 1.
     ensures device { IfOk result (λ report.
-        HasFailed (times_blamed report.tasks) (F.device.failures folder.old) (F.device.failures folder.new)) }
+        HasFailed (times_attributed report.tasks) (F.device.failures folder.old) (F.device.failures folder.new)) }
     ensures dry { options.dry_run ≡ true → folder.new ≡ folder.old }
-    // So it changes files at the outputs and records of its tasks alone.
+    // So it asks for changes only at the outputs and records of its tasks.
     ensures changes { Requests F.device (changes_at (is_of_executions plan.now)) folder.old folder.new }
-    // Where contents are known and `IsAssumed` holds: if `AreTrueBefore` holds of the records, this is
-    // a build of the plan by the definitions. If also `guard` holds of the contents so far (no two share a
-    // digest, or nothing was remembered), the records of what is remembered exist after it.
+    // Where contents are known, kinds agree and a stopped write leaves no false record (`IsAssumed`):
+    // if the records are true (`AreTrueBefore`), or digests may have collided before (`clear` is
+    // false), this is a build of the plan by the definitions.
     ensures build { F.device.faithful folder.new → IfOk result (λ report. (kinds : Kinds)
         (registry_of : Registering)
         (remembered : Memory) (clear : Bool) (observed : List Bytes)

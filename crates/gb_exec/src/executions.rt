@@ -1,4 +1,10 @@
 //! The executions of all tasks of a plan.
+//!
+//! This is the main loop of a build. For each task, in the order of the plan, it names the files
+//! that are read ahead ([`ahead`](crate::ahead)), executes the task if it starts
+//! ([`one_task`](crate::one_task)), prints its part of the report, records its outcome for the
+//! tasks after it ([`may_start`](crate::may_start)), and appends its report. The digests of the
+//! files that were read since the last change go from task to task (`seen`).
 ghost use Rattle.std.specs.Prelude.{◌≡◌, ◌≤◌, ◌<◌, ◌+◌, ◌++◌, ◌∷◌, Bool, List, true, false, [], map, length};
 ghost use Rattle.std.specs.Prelude.{replicate, IsTrue, vec_len};
 ghost use Rattle.std.specs.List.{AllZip, flat_map};
@@ -20,7 +26,7 @@ ghost use Rattle.gb_exec.specs.declared.may_start.Ending.TheVariants.{ToCome};
 ghost use Rattle.gb_exec.specs.Asking.{ExecutionsRequest};
 ghost use Rattle.gb_exec.specs.Building.{CanBuild};
 ghost use Rattle.gb_exec.specs.Built.{AreTrueBefore, HasBuilt};
-ghost use Rattle.gb_exec.specs.Failing.{times_blamed};
+ghost use Rattle.gb_exec.specs.Failing.{times_attributed};
 ghost use Rattle.gb_exec.specs.Reports.{IsOf};
 
 use crate::ahead::Ahead;
@@ -81,7 +87,7 @@ pub(crate) fn execute_tasks<A: Actions, F: Folder, L: TaskListener, P: Printer>(
     ensures requests { ExecutionsRequest F.device A.meanings build.now.table.now
         build.now.options build.now.tasks.now build.now.records.now reports.new.items folder.old folder.old
         folder.new }
-    ensures device { HasFailed (times_blamed reports.new.items)
+    ensures device { HasFailed (times_attributed reports.new.items)
         (F.device.failures folder.old) (F.device.failures folder.new) }
     ensures build { F.device.faithful folder.new → (kinds : Kinds) (registry_of : Registering)
         (remembered : Memory)

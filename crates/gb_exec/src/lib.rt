@@ -17,7 +17,7 @@
 //! Premises of `execute`: each task of the plan can be executed (`CanBuild`), and there is a record
 //! or none for each. `build`: where contents are known, kinds agree (`IsAssumed`) and the records
 //! are those that are remembered (`AreTrueBefore`), it is a build of the plan by the definitions,
-//! as long as no two contents that it met share a digest (`HasBuilt`). `outline`: over any folder,
+//! as long as no two contents so far share a digest (`HasBuilt`). `outline`: over any folder,
 //! which tasks start, and which outcomes each may have, but not which of these outcomes a started
 //! task with actions has, with which fault it fails, nor what it prints if it ran or failed.
 //!
@@ -25,6 +25,8 @@
 //! outcomes that `end` records; the last three of these take no memory. `starts_by_number` and
 //! `needs_by_number` are the laws that this is the definition by path (`Execution.DoesStart`).
 //! `reported_more` and `reported_is_heard` are the laws of listeners.
+//!
+//! What was set aside: `docs/DECISIONS.md#executions-and-runs`.
 #![tactic(auto)]
 
 mod ahead;

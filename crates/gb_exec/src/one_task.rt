@@ -1,4 +1,8 @@
 //! The execution of one task of a plan.
+//!
+//! A task that does not start gets its report at once, and no listener is notified. Otherwise the
+//! listeners are notified, `execute_task` of `gb_task` executes the task, and they are notified
+//! again.
 ghost use Rattle.std.specs.Prelude.{◌≡◌, ◌<◌, [], ◌∷◌, ℕ, List, None, Some, false, map, length};
 ghost use Rattle.std.specs.Prelude.{slice_get, slice_index_or};
 ghost use Rattle.gb_folder.specs.Calls.{Requests, no_change};

@@ -2,7 +2,7 @@
 use Rattle.std.specs.Prelude.{◌≡◌, ◌⊎◌, ◌++◌, Bool, List, ◌∷◌, map, Option, None, bytes_eq, fold}
 use Rattle.std.specs.Borrow.{Bor}
 use Rattle.std.specs.List.{list_any}
-use Rattle.gb_folder.specs.Files.{Place, Bytes, Files, Contents, DiffersOnlyAt, IsTorn, Tearing, without}
+use Rattle.gb_folder.specs.Files.{Place, Bytes, Contents, DiffersOnlyAt, IsTorn, Tearing, without}
 use Rattle.gb_report.specs.declared.fault.Fault.{Fault}
 use Rattle.gb_report.specs.declared.fault.Fault.TheVariants as faults
 

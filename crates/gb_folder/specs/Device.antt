@@ -11,7 +11,7 @@ use Rattle.gb_folder.specs.Semantics.{Answer, Answers}
 use Rattle.gb_folder.specs.declared.folder.FolderFault.{FolderFault}
 use Rattle.gb_folder.specs.declared.folder.FolderFault.TheVariants as folders
 
--- ---- Answers that no folder gives, whatever its contents
+-- ---- Answers that a folder may give, whatever its contents
 
 abbrev pub ListsWell : Place → Result (List Place) FolderFault → Type 0
 ListsWell root (Ok places) =
@@ -45,8 +45,10 @@ IsWell (Removes place answer) = RemovesWell answer
 
 -- ---- Calls
 
--- One call of a folder, with its answer. The count of failures does not fall, and it rises if the device
--- failed. If the contents of the folder are known, the answer is exact.
+-- One call of a folder, with its answer: the type of the folder allows it (`allowed`), some contents could give
+-- the answer (`well`), the count of failures does not fall and rises if the device failed (`count`, `risen`), a
+-- torn write still leaves what it left (`tearing`). Where contents are known afterwards, they were before
+-- (`back`), and the answer is exactly theirs (`exact`).
 pub record IsCalled {F : Type 0} (device : Device F) (old : F) (call : Call) (new : F) : Type 0 where
   pub allowed : device.allowed old call new
   pub well : IsWell call

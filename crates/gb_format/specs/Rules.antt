@@ -18,8 +18,8 @@ use Rattle.gb_format.specs.declared.rule.Rule.{Rule}
 use Rattle.gb_format.specs.declared.rule.Rule.TheVariants.{Close, Space, Line, Part, After}
 use Rattle.gb_format.specs.declared.state.State.{State}
 use Rattle.gb_format.specs.declared.state.Advance.{Advance}
-use Rattle.gb_format.specs.declared.state.Execution.{Execution}
-use Rattle.gb_format.specs.declared.state.Execution.TheVariants as turns
+use Rattle.gb_format.specs.declared.state.LineBreak.{LineBreak}
+use Rattle.gb_format.specs.declared.state.LineBreak.TheVariants as turns
 use Rattle.gb_format.specs.Kinds.{kind_of, is_tight, is_open}
 use Rattle.gb_format.specs.Places.{at_start, deeper, shallower, depth, begins, after}
 use Rattle.gb_format.specs.Fits.{fits, fits_from}
@@ -43,45 +43,45 @@ abbrev pub is_stepped : State → Bool
 is_stepped s = s.is_inner_chain && (s.broken == 1)
 
 -- an element begins after a bracket, a comma or a comment
-abbrev pub turn_after : Kind → Execution
-turn_after kinds.OpenParen = turns.Inside
-turn_after kinds.OpenBracket = turns.Inside
-turn_after kinds.Comma = turns.Inside
-turn_after kinds.Comment = turns.Inside
-turn_after before = turns.Flat
+abbrev pub break_after : Kind → LineBreak
+break_after kinds.OpenParen = turns.Inside
+break_after kinds.OpenBracket = turns.Inside
+break_after kinds.Comma = turns.Inside
+break_after kinds.Comment = turns.Inside
+break_after before = turns.Flat
 
 -- the line break in a broken bracket
-abbrev pub turn_in : State → Kind → Kind → Execution
-turn_in s before kinds.Close = turns.Closing
-turn_in s before kinds.Dot = if is_stepped s then turns.InnerStep else turn_after before
-turn_in s before k = turn_after before
+abbrev pub break_in : State → Kind → Kind → LineBreak
+break_in s before kinds.Close = turns.Closing
+break_in s before kinds.Dot = if is_stepped s then turns.InnerStep else break_after before
+break_in s before k = break_after before
 
 -- the line break outside of brackets
-abbrev pub turn_out : State → Kind → Kind → Execution
-turn_out s kinds.Comment k = turns.Resumed
-turn_out s kinds.Comma kinds.Dot =
+abbrev pub break_out : State → Kind → Kind → LineBreak
+break_out s kinds.Comment k = turns.Resumed
+break_out s kinds.Comma kinds.Dot =
     if s.is_cut then turns.Element else (if s.is_chain then turns.Step else turns.Flat)
-turn_out s kinds.Comma k = if s.is_cut then turns.Element else turns.Flat
-turn_out s before kinds.Dot = if s.is_chain then turns.Step else turns.Flat
-turn_out s before k = turns.Flat
+break_out s kinds.Comma k = if s.is_cut then turns.Element else turns.Flat
+break_out s before kinds.Dot = if s.is_chain then turns.Step else turns.Flat
+break_out s before k = turns.Flat
 
-abbrev pub turn_of : State → Kind → Kind → Execution
-turn_of s before k =
-    if is_broken s then turn_in s before k
-    else (if s.place.brackets == 0 then turn_out s before k else turns.Flat)
+abbrev pub break_of : State → Kind → Kind → LineBreak
+break_of s before k =
+    if is_broken s then break_in s before k
+    else (if s.place.brackets == 0 then break_out s before k else turns.Flat)
 
 -- the indent of the elements of a broken bracket
 abbrev pub inside_indent : State → ℕ
 inside_indent s = if s.broken == 1 then s.inner else s.indent
 
-abbrev pub turn_rule : State → Execution → Bool → Rule
-turn_rule s turns.Flat tight = if tight then Close else Space
-turn_rule s turns.Inside tight = Line (inside_indent s)
-turn_rule s turns.InnerStep tight = Line (deeper s.inner)
-turn_rule s turns.Closing tight = Line (shallower (inside_indent s))
-turn_rule s turns.Resumed tight = Line (depth s.place + 1)
-turn_rule s turns.Element tight = Line (depth s.place + 1)
-turn_rule s turns.Step tight = Line (deeper s.base)
+abbrev pub break_rule : State → LineBreak → Bool → Rule
+break_rule s turns.Flat tight = if tight then Close else Space
+break_rule s turns.Inside tight = Line (inside_indent s)
+break_rule s turns.InnerStep tight = Line (deeper s.inner)
+break_rule s turns.Closing tight = Line (shallower (inside_indent s))
+break_rule s turns.Resumed tight = Line (depth s.place + 1)
+break_rule s turns.Element tight = Line (depth s.place + 1)
+break_rule s turns.Step tight = Line (deeper s.base)
 
 -- the state in the line with which a clause continues
 abbrev pub resumed : State → Bool → List ℕ → List (List ℕ) → State
@@ -105,22 +105,22 @@ entered s t ts = record s {
   is_inner_chain = not (fits_from (reaches.Inner s.broken) s.place (room_at (inside_indent s)) t ts);
 }
 
-abbrev pub turned : State → Execution → Bool → List ℕ → List (List ℕ) → State
-turned s turns.Flat tight t ts = record s { room = s.room - (if tight then 0 else 1) - length t }
-turned s turns.Inside tight t ts =
+abbrev pub after_break : State → LineBreak → Bool → List ℕ → List (List ℕ) → State
+after_break s turns.Flat tight t ts = record s { room = s.room - (if tight then 0 else 1) - length t }
+after_break s turns.Inside tight t ts =
     if s.broken == 1 then entered s t ts else record s { room = room_after s.indent t }
-turned s turns.InnerStep tight t ts = record s {
+after_break s turns.InnerStep tight t ts = record s {
   indent = deeper s.inner;
   room = room_after (deeper s.inner) t;
 }
-turned s turns.Closing tight t ts = record s {
+after_break s turns.Closing tight t ts = record s {
   broken = shallower s.broken;
   indent = shallower (inside_indent s);
   room = room_after (shallower (inside_indent s)) t;
 }
-turned s turns.Resumed tight t ts = resumed s (is_clause_cut s t ts) t ts
-turned s turns.Element tight t ts = resumed s true t ts
-turned s turns.Step tight t ts = record s { indent = deeper s.base; room = room_after (deeper s.base) t }
+after_break s turns.Resumed tight t ts = resumed s (is_clause_cut s t ts) t ts
+after_break s turns.Element tight t ts = resumed s true t ts
+after_break s turns.Step tight t ts = record s { indent = deeper s.base; room = room_after (deeper s.base) t }
 
 -- a bracket that opens does not fit on the line
 abbrev pub breaks : State → Place → Kind → List (List ℕ) → Bool
@@ -144,8 +144,8 @@ opened s t ts =
 
 abbrev pub inner : State → Kind → List ℕ → List (List ℕ) → Advance
 inner s before t ts = record {
-  rule = turn_rule s (turn_of s before (kind_of t)) (is_tight before (kind_of t));
-  state = opened (turned s (turn_of s before (kind_of t)) (is_tight before (kind_of t)) t ts) t ts;
+  rule = break_rule s (break_of s before (kind_of t)) (is_tight before (kind_of t));
+  state = opened (after_break s (break_of s before (kind_of t)) (is_tight before (kind_of t)) t ts) t ts;
 }
 
 -- ---- where a statement or a clause begins

@@ -1,10 +1,10 @@
 //! The rule for the white space before each comment or token, and the state from which it follows.
 ghost use Rattle.std.specs.Prelude.{◌≡◌, true};
 ghost use Rattle.gb_format.specs.Fits.{texts_of};
-ghost use Rattle.gb_format.specs.Rules.{room_at, room_after, is_broken, turn_in, turn_out, turn_of};
-ghost use Rattle.gb_format.specs.Rules.{entered, inner_indent, inside_indent, is_stepped, turn_after};
-ghost use Rattle.gb_format.specs.Rules.{turn_rule};
-ghost use Rattle.gb_format.specs.Rules.{resumed, is_clause_cut, turned, breaks, opened, joins, begun_rule};
+ghost use Rattle.gb_format.specs.Rules.{room_at, room_after, is_broken, break_in, break_out, break_of};
+ghost use Rattle.gb_format.specs.Rules.{entered, inner_indent, inside_indent, is_stepped, break_after};
+ghost use Rattle.gb_format.specs.Rules.{break_rule};
+ghost use Rattle.gb_format.specs.Rules.{resumed, is_clause_cut, after_break, breaks, opened, joins, begun_rule};
 ghost use Rattle.gb_format.specs.Rules.{begun, comment_indent, closing_rule, closed, inner, begin, step};
 ghost use Rattle.gb_format.specs.Rules.{first_state};
 
@@ -40,7 +40,7 @@ pub struct State {
 
 /// Why a line breaks before a token within a clause, or that it does not break.
 #[derive(Clone, Copy)]
-pub enum Execution {
+pub enum LineBreak {
     /// It does not break.
     Flat,
     /// An element of a broken bracket begins.
@@ -85,47 +85,47 @@ fn is_stepped(state: State) -> bool
 }
 
 /// The line break in a broken bracket, except before steps and the bracket that closes.
-fn turn_after(before: Kind) -> Execution
-    ensures { result ≡ turn_after before }
+fn break_after(before: Kind) -> LineBreak
+    ensures { result ≡ break_after before }
 {
     match before {
-        Kind::OpenParen | Kind::OpenBracket | Kind::Comma | Kind::Comment => Execution::Inside,
-        _ => Execution::Flat,
+        Kind::OpenParen | Kind::OpenBracket | Kind::Comma | Kind::Comment => LineBreak::Inside,
+        _ => LineBreak::Flat,
     }
 }
 
 /// The line break in a broken bracket.
-fn turn_in(state: State, before: Kind, kind: Kind) -> Execution
-    ensures { result ≡ turn_in state before kind }
+fn break_in(state: State, before: Kind, kind: Kind) -> LineBreak
+    ensures { result ≡ break_in state before kind }
 {
     match kind {
-        Kind::Close => Execution::Closing,
-        Kind::Dot if is_stepped(state) => Execution::InnerStep,
-        _ => turn_after(before),
+        Kind::Close => LineBreak::Closing,
+        Kind::Dot if is_stepped(state) => LineBreak::InnerStep,
+        _ => break_after(before),
     }
 }
 
 /// The line break outside of brackets.
-fn turn_out(state: State, before: Kind, kind: Kind) -> Execution
-    ensures { result ≡ turn_out state before kind }
+fn break_out(state: State, before: Kind, kind: Kind) -> LineBreak
+    ensures { result ≡ break_out state before kind }
 {
     match (before, kind) {
-        (Kind::Comment, _) => Execution::Resumed,
-        (Kind::Comma, _) if state.is_cut => Execution::Element,
-        (_, Kind::Dot) if state.is_chain => Execution::Step,
-        _ => Execution::Flat,
+        (Kind::Comment, _) => LineBreak::Resumed,
+        (Kind::Comma, _) if state.is_cut => LineBreak::Element,
+        (_, Kind::Dot) if state.is_chain => LineBreak::Step,
+        _ => LineBreak::Flat,
     }
 }
 
-fn turn_of(state: State, before: Kind, kind: Kind) -> Execution
-    ensures { result ≡ turn_of state before kind }
+fn break_of(state: State, before: Kind, kind: Kind) -> LineBreak
+    ensures { result ≡ break_of state before kind }
 {
     if is_broken(state) {
-        turn_in(state, before, kind)
+        break_in(state, before, kind)
     } else if state.place.brackets == 0 {
-        turn_out(state, before, kind)
+        break_out(state, before, kind)
     } else {
-        Execution::Flat
+        LineBreak::Flat
     }
 }
 
@@ -140,16 +140,16 @@ fn inside_indent(state: State) -> usize
     }
 }
 
-fn turn_rule(state: State, turn: Execution, tight: bool) -> Rule
-    ensures { result ≡ turn_rule state turn tight }
+fn break_rule(state: State, line_break: LineBreak, tight: bool) -> Rule
+    ensures { result ≡ break_rule state line_break tight }
 {
-    match turn {
-        Execution::Flat => { if tight { Rule::Close } else { Rule::Space } }
-        Execution::Inside => Rule::Line(inside_indent(state)),
-        Execution::InnerStep => Rule::Line(deeper(state.inner)),
-        Execution::Closing => Rule::Line(shallower(inside_indent(state))),
-        Execution::Resumed | Execution::Element => Rule::Line(depth(state.place) + 1),
-        Execution::Step => Rule::Line(deeper(state.base)),
+    match line_break {
+        LineBreak::Flat => { if tight { Rule::Close } else { Rule::Space } }
+        LineBreak::Inside => Rule::Line(inside_indent(state)),
+        LineBreak::InnerStep => Rule::Line(deeper(state.inner)),
+        LineBreak::Closing => Rule::Line(shallower(inside_indent(state))),
+        LineBreak::Resumed | LineBreak::Element => Rule::Line(depth(state.place) + 1),
+        LineBreak::Step => Rule::Line(deeper(state.base)),
     }
 }
 
@@ -193,7 +193,7 @@ fn entered(state: State, text: &str, rest: &[Item]) -> State
 
 /// The state where an element of a broken bracket begins.
 fn inside(state: State, text: &str, rest: &[Item]) -> State
-    ensures { result ≡ turned state Execution.Inside true text.now (texts_of rest.now) }
+    ensures { result ≡ after_break state LineBreak.Inside true text.now (texts_of rest.now) }
 {
     if state.broken == 1 {
         entered(state, text, rest)
@@ -205,32 +205,32 @@ fn inside(state: State, text: &str, rest: &[Item]) -> State
     }
 }
 
-fn turned(state: State, turn: Execution, tight: bool, text: &str, rest: &[Item]) -> State
-    ensures { result ≡ turned state turn tight text.now (texts_of rest.now) }
+fn after_break(state: State, line_break: LineBreak, tight: bool, text: &str, rest: &[Item]) -> State
+    ensures { result ≡ after_break state line_break tight text.now (texts_of rest.now) }
 {
-    match turn {
-        Execution::Flat => State {
+    match line_break {
+        LineBreak::Flat => State {
             room: state
                 .room
                 .saturating_sub(if tight { 0 } else { 1 })
                 .saturating_sub(text.len()),
             ..state
         },
-        Execution::Inside => inside(state, text, rest),
-        Execution::InnerStep => State {
+        LineBreak::Inside => inside(state, text, rest),
+        LineBreak::InnerStep => State {
             indent: deeper(state.inner),
             room: room_after(deeper(state.inner), text),
             ..state
         },
-        Execution::Closing => State {
+        LineBreak::Closing => State {
             broken: shallower(state.broken),
             indent: shallower(inside_indent(state)),
             room: room_after(shallower(inside_indent(state)), text),
             ..state
         },
-        Execution::Resumed => resumed(state, is_clause_cut(state, text, rest), text, rest),
-        Execution::Element => resumed(state, true, text, rest),
-        Execution::Step => State {
+        LineBreak::Resumed => resumed(state, is_clause_cut(state, text, rest), text, rest),
+        LineBreak::Element => resumed(state, true, text, rest),
+        LineBreak::Step => State {
             indent: deeper(state.base),
             room: room_after(deeper(state.base), text),
             ..state
@@ -380,10 +380,10 @@ fn inner(state: State, before: Kind, text: &str, rest: &[Item]) -> Advance
 {
     let kind = kind_of(text);
     let tight = is_tight(before, kind);
-    let turn = turn_of(state, before, kind);
-    let state_then = turned(state, turn, tight, text, rest);
+    let line_break = break_of(state, before, kind);
+    let state_then = after_break(state, line_break, tight, text, rest);
     Advance {
-        rule: turn_rule(state, turn, tight),
+        rule: break_rule(state, line_break, tight),
         state: opened(state_then, text, rest),
     }
 }

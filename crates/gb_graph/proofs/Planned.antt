@@ -7,7 +7,7 @@ use Rattle.std.proofs.lemmas.List.{get_or-map, length-map}
 use Rattle.std.proofs.lemmas.List.Elements.{Contains-get_or}
 use Rattle.gb_plan.specs.declared.plan.Planned.{Planned}
 use Rattle.gb_plan.specs.Task.{Path, has_path}
-use Rattle.gb_plan.specs.Graph.{Plan, order, after, after_at, is_ready, stuck, no_repeats, IsAfter}
+use Rattle.gb_plan.specs.Graph.{Plan, order, after, is_ready, stuck, no_repeats, IsAfter}
 use Rattle.gb_plan.specs.Graph as graph
 use Rattle.gb_plan.proofs.Tests.{not_true, at_member}
 use Rattle.gb_plan.proofs.Chains.{ready_here, stuck_rest}

@@ -20,6 +20,8 @@
 //! `locks` takes the same locks for other programs that write in the folder. If two kinds have one
 //! name (41) or memory runs out (3), there is no table, and `print_refused` prints the refusal. The
 //! exit status is at most 2.
+//!
+//! What was set aside: `docs/DECISIONS.md#programs`.
 #![tactic(auto)]
 
 pub mod here;

@@ -35,7 +35,7 @@ pub(crate) fn locks_for<R: Files<File = File> + Env + AllocGlobal>(
 
 /// The locks that a build takes: on the current directory, and on the folders of its projects. It
 /// waits for each that another process holds. The system releases them when the files are dropped,
-/// or with the process.
+/// or with the process. That they are held is only tested.
 pub fn locks<R: Files<File = File> + AllocGlobal>(rt: &R) -> Result<Vec<File>, AllocError> {
     let mut held = Vec::new(rt.alloc());
     if let Some(root) = locked(rt, ".") {
@@ -67,7 +67,7 @@ fn refused(fault: &Fault) -> Result<bool, AllocError> {
     }
 }
 
-/// Whether arguments request a build that is not dry, or why they request none.
+/// Whether arguments request a build that is not dry; an error is the fault of the arguments.
 pub fn is_build(alloc: Global, words: Vec<String>) -> Result<bool, Fault>
     ensures asked { IfOk result (λ is_build.
         is_build ≡ not (flag_in (codes "dry-run") (rows_in (map string_bytes words.items)))) }

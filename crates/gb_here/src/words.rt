@@ -4,8 +4,8 @@ use std::env;
 use std::io::ErrorKind;
 use std::rt::Env;
 
-/// The arguments of the command, without the program's name. One that is no text is no known
-/// argument.
+/// The arguments of the command, without the program's name. If one is not UTF-8, they are refused
+/// (96).
 pub fn command_words<R: Env + AllocGlobal>(rt: &R) -> Result<Vec<String>, Fault> {
     let words = match env::args(rt) {
         Ok(words) => words,

@@ -1,7 +1,7 @@
 -- Paths of tasks have neither slashes nor dots, so their records' places are disjoint.
-use Rattle.std.proofs.Common.{◌≡◌, ◌≢◌, ◌<◌, zero, suc, IsUtf8, ℕ, Bool, true, false, ◌&&◌, cond, eqb, nat_eq, IsTrue, List, [], ◌∷◌, ◌++◌, refl, ap, sym, ◌∙◌, arith, codes}
+use Rattle.std.proofs.Common.{◌≡◌, ◌≢◌, ◌<◌, zero, suc, IsUtf8, ℕ, Bool, true, false, cond, eqb, List, [], ◌∷◌, ◌++◌, refl, ap, sym, ◌∙◌, arith, codes}
 use Rattle.std.specs.Prelude.{◌==◌, if◌then◌else◌}
-use Rattle.std.specs.List.{AllByRecursion, list_all, slice_split, onto_first, starts_with}
+use Rattle.std.specs.List.{AllByRecursion, list_all, slice_split, onto_first}
 use Rattle.std.proofs.lemmas.Bool.{and_parts, eqb-true}
 use Rattle.std.proofs.lemmas.Bool.Decides.{nat_tests}
 use Rattle.std.proofs.lemmas.List.{append_cancel_left}

@@ -14,7 +14,7 @@ use std::alloc::Global;
 /// The closure of an action.
 pub type Run = Box<dyn Fn(Global, &Request) -> Result<Reply, ActionFault>>;
 
-/// A closure, with the number, the version and the signature of the kind whose meaning it keeps.
+/// A closure, with the number, the version and the shape of the kind whose meaning it keeps.
 #[derive(Drop)]
 pub struct StoredAction {
     /// The number of the kind, which names its meaning.
@@ -26,7 +26,7 @@ pub struct StoredAction {
     run: Run,
     /// A version is at least 1.
     pub ghost positive: { 1 ≤ version },
-    /// The signature is that of the kind.
+    /// The shape is that of the kind.
     pub ghost shaped: { shape ≡ builtin_shape kind },
     ghost callable: { (alloc : _) (request : _) → IsAsked (builtin_shape kind) request.now
         → Run.pre run alloc request },
@@ -36,7 +36,7 @@ pub struct StoredAction {
 }
 
 impl StoredAction {
-    /// Stores a closure that keeps the meaning of the kind.
+    /// Stores a closure that implements the kind of this number, whose shape is `shape`.
     pub fn new(kind: u16, version: u32, shape: Shape, run: Run) -> StoredAction
         requires positive { 1 ≤ version }
         requires shaped { shape ≡ builtin_shape kind }

@@ -8,7 +8,7 @@ use gb_core::bytes::Bytes;
 use gb_core::place::RelPath;
 use std::alloc::{AllocError, Global};
 
-/// Writes the file, and does nothing else.
+/// The reply that writes this file below the output `out`, and does nothing else.
 pub fn one_file(alloc: Global, path: RelPath, bytes: Bytes) -> Result<Reply, AllocError>
     ensures { IfOk result (λ reply. reply ≡ one_file path bytes) }
 {

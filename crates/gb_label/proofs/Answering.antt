@@ -1,5 +1,5 @@
 -- What a task's outcome is based on, as it was answered on a part of the way and on all of it.
-use Rattle.std.proofs.Common.{◌≡◌, ℕ, List, Option, Some, refl, sym, subst}
+use Rattle.std.proofs.Common.{◌≡◌, List, Option, Some, refl, sym, subst}
 use Rattle.gb_folder.specs.Calls.{Requests, no_change}
 use Rattle.gb_history.specs.Decision.{DecidesFrom}
 use Rattle.gb_history.specs.Record.{Record}

@@ -1,5 +1,5 @@
 -- What the outcome of a task is based on, as calls answered it, over any folder.
-use Rattle.std.specs.Prelude.{ℕ, ◌≡◌, true, false, List, Option, Some, ⊤}
+use Rattle.std.specs.Prelude.{◌≡◌, true, false, List, Option, Some, ⊤}
 use Rattle.gb_history.specs.Decision.{DecidesFrom}
 use Rattle.gb_history.specs.Record.{Prints, Record}
 use Rattle.gb_history.specs.declared.decide.Decision.{Decision}

@@ -88,7 +88,8 @@ pub fn decided<F: Folder>(
     // Over any folder: the decision follows from what it is based on.
     ensures goes_by { IfOk result (λ found.
         FollowsFrom options task.now (option_copied old.entry) found.decision found.basis) }
-    // Over any folder: what is up to date has outputs, is not stale, and no rerun is requested.
+    // Over any folder: what is up to date has outputs and no false `upToDateWhen`, and no rerun is
+    // requested.
     ensures may_decide { IfOk result (λ found. MayDecide options task.now found.decision) }
     // Over any folder: if it may execute incrementally, its outputs were read.
     ensures read { IfOk result (λ found. AreOutputsFor task.now found.decision found.outputs.items) }

@@ -100,7 +100,7 @@ fn look_at_files<F: Folder>(
     Ok(EarlyCase::Open(inputs))
 }
 
-/// What a task is found to be before its record is considered. Inputs that were seen are not read;
+/// What a task is found to be before its record is considered. Remembered inputs are not read;
 /// the bytes of the others are kept while there is `room` for them. Nothing is changed, even if it
 /// fails. The error is the first fault in reading the inputs or, if there is no source, in listing
 /// the outputs; or that memory ran out or the device failed.

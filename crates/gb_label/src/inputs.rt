@@ -72,8 +72,8 @@ fn read_one<F: Folder>(
     }
 }
 
-/// The files of all file properties of a task, in the order of their names. Those that were seen
-/// are not read. The bytes of the others are kept while there is `room` for them, and reduce it.
+/// The files of all file properties of a task, in the order of their names. Those that are
+/// remembered are not read. The bytes of the others are kept while there is `room` for them, and reduce it.
 /// Nothing is changed, even if it fails. The error is the first fault in reading them.
 pub(crate) fn read_inputs<F: Folder>(
     alloc: Global,
@@ -87,7 +87,7 @@ pub(crate) fn read_inputs<F: Folder>(
     ensures blamed { BlamesOnly (is_input_of task.now) result }
     ensures read { IfOk result (λ readings. AreInputs task.now readings.items) }
     // Over any folder: the files are those that calls answered, and so are their digests and bytes,
-    // since the state from which the files are seen.
+    // since the state from which files are remembered.
     ensures answered { (first : _) → Requests F.device no_change first folder.old
         → AreSeen F.device first folder.old seen.now
         → IfOk result (λ readings. AreInputsAnswered F.device

@@ -20,8 +20,10 @@
 //! reading the inputs or listing the outputs (`IsHindered`), or a fault of the machine. Over any
 //! folder the decision goes by what calls returned (`WasPrepared`): a task is without source, or up
 //! to date by its record, on just this. Preparing a skipped task, or one without actions, does not
-//! fail; by the code, and in no clause, it reads nothing. Only a task with outputs that is not
-//! stale, and of which no rerun is asked, is decided to be up to date (`may_decide`).
+//! fail; by the code, and in no clause, it reads nothing. Only a task with outputs and no
+//! false `upToDateWhen`, of which no rerun is requested, is decided to be up to date (`may_decide`).
+//!
+//! What was set aside: `docs/DECISIONS.md#executions-and-runs`.
 #![tactic(auto)]
 
 mod completing;

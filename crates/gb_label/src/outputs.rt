@@ -83,7 +83,7 @@ pub fn read_outputs<F: Folder>(
     ensures blamed { BlamesOnly (is_output_of task.now) result }
     ensures read { IfOk result (λ readings. AreOutputs task.now readings.items) }
     // Over any folder: the files are those that calls answered, and so are their digests and bytes,
-    // since the state from which the files are seen.
+    // since the state from which files are remembered.
     ensures answered { (first : _) → Requests F.device no_change first folder.old
         → AreSeen F.device first folder.old seen.now
         → IfOk result (λ readings. AreOutputsAnswered F.device

@@ -77,7 +77,7 @@ pub fn prepare<F: Folder>(
     // What is returned for a full run is readings of the task's inputs, for an incremental run also
     // of its outputs: with their names, and of files at their places.
     ensures read { IfOk result (IsRead task.now) }
-    // Over any folder it is what calls answered, since the state from which the files are seen;
+    // Over any folder it is what calls answered, since the state from which files are remembered;
     // and what is up to date was found so on exactly this.
     ensures answered { (first : _) → Requests F.device no_change first folder.old
         → AreSeen F.device first folder.old seen.now
@@ -86,7 +86,7 @@ pub fn prepare<F: Folder>(
     ensures prepared { F.device.faithful folder.new → AreSeenIn (F.device.contents folder.old).files seen.now
         → IfOk result
         (IsPrepared options task.now (F.device.contents folder.old) (option_copied old.entry)) }
-    // Where contents are known and the seen digests are right: the files that a run is based on, or
+    // Where contents are known and the remembered digests are right: the files that a run is based on, or
     // the outputs of a task that is up to date, are in the folder as they were read.
     ensures observed { F.device.faithful folder.new → AreSeenIn (F.device.contents folder.old).files seen.now
         → IfOk result (IsObserved task.now (F.device.contents folder.old).files) }

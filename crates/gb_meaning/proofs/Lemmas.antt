@@ -14,8 +14,6 @@ pub mod Weaker
 pub mod Every
 pub mod Plain
 pub mod Success
-pub mod Outlined
-pub mod Alone
 pub mod Observed
 pub mod Sessions
 pub mod Current

@@ -19,6 +19,6 @@ abbrev pub leaves_nothing : Tearing
 leaves_nothing place existed next left = ⊥
 
 -- The empty folder holds an empty memory, and what is never torn is recognised for what it is.
-pub record MemoryGrants (setting : Setting) : Type 0 where
+pub record PremisesHoldInMemory (setting : Setting) : Type 0 where
   pub exists : HoldsMemory setting (record { files = []; special = [] }) []
   pub tears : TornWritesAreDetected setting.says setting.record_place leaves_nothing

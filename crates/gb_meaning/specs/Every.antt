@@ -1,4 +1,4 @@
--- What a run of any events promises, in one sentence.
+-- What any list of events promises, in one sentence.
 use Rattle.std.specs.Prelude.{◌≡◌, ◌≤◌, false, List, [], ◌∷◌, ◌++◌, Some, ⊤}
 use Rattle.std.specs.List.{flat_map}
 use Rattle.gb_report.specs.declared.report.Report.{Report}
@@ -49,13 +49,13 @@ always contents = ⊤
 
 -- A run without a condition on digests: each event is a step, and after each event the folder holds the
 -- records of what is remembered, and these are true.
-abbrev pub PlainRun : Setting → State → List State → List Event → List Answer → Shown → Type 0
-PlainRun setting old [] [] [] end = (old.failures ≤ end.failures) × (old.contents ≡ end.contents)
-PlainRun setting old (next ∷ states) (event ∷ rest) (answer ∷ others) end =
+abbrev pub UnconditionalRun : Setting → State → List State → List Event → List Answer → Shown → Type 0
+UnconditionalRun setting old [] [] [] end = (old.failures ≤ end.failures) × (old.contents ≡ end.contents)
+UnconditionalRun setting old (next ∷ states) (event ∷ rest) (answer ∷ others) end =
     (old.failures ≤ next.failures)
     × ((observed : List Bytes) → Step setting always observed old event answer next)
-    × HoldsMemory setting next.contents next.remembered × PlainRun setting next states rest others end
-PlainRun setting old states rest others end = ⊥
+    × HoldsMemory setting next.contents next.remembered × UnconditionalRun setting next states rest others end
+UnconditionalRun setting old states rest others end = ⊥
 
 -- no two contents at these states, or in the first records, share a digest
 abbrev pub AllCollisionFree : Setting → State → List State → Type 0
@@ -75,8 +75,8 @@ abbrev pub EverySuccessIsFromScratch : Setting → Type 0
 EverySuccessIsFromScratch setting = HoldsOfRuns setting (AllSucceed setting)
 
 -- the run is a plain one
-abbrev pub ClearRunIsPlain : Setting → Type 0
-ClearRunIsPlain setting = HoldsOfRuns setting (PlainRun setting)
+abbrev pub ClearRunIsUnconditional : Setting → Type 0
+ClearRunIsUnconditional setting = HoldsOfRuns setting (UnconditionalRun setting)
 
 -- From any true records that the old folder holds, the run went through states, one after each event, and
 -- finally this folder. If no two of their contents share a digest, each event is a step without a premise,
@@ -87,9 +87,10 @@ PromiseHolds setting old all answered end =
     let start = state_of old remembered in
     (states : List State) × WentThrough setting start states all answered end
     × (AllCollisionFree setting start states
-    → PlainRun setting start states all answered end × AllSucceed setting start states all answered end)
+    → UnconditionalRun setting start states all answered end
+    × AllSucceed setting start states all answered end)
 
--- what a run of any events promises
+-- what any list of events promises
 abbrev pub Headline : Setting → Type 0
 Headline setting =
     (old end : Shown) (all : List Event) (answered : List Answer) → EventsHold setting old all answered end →

@@ -25,7 +25,7 @@ use Rattle.gb_action.specs.Changes.{Changes}
 use Rattle.gb_plan.specs.Graph.{Plan, Reached, needs_in, order}
 use Rattle.gb_plan.specs.declared.plan.Planned.{Planned}
 use Rattle.gb_meaning.specs.Label.{Moment, Early, CannotRead, Skips, HasNoActions, HasNoSource, early_case}
-use Rattle.gb_meaning.specs.Label.{some_outcome, IsLabel, IsCurrent, IsIncremental, AreChanges, run_of}
+use Rattle.gb_meaning.specs.Label.{some_outcome, IsOutcomeOf, IsCurrent, IsIncremental, AreChanges, run_of}
 use Rattle.gb_report.specs.Outcome.{is_failed, is_started}
 
 -- ---- Which tasks start
@@ -259,7 +259,7 @@ IsOfMachine rules moment task outcome new =
 -- the execution of a started task: its outcome by the cases, or a fault of the machine
 pub record StartedExecution (rules : Rules) (moment : Moment) (task : Task) (report : TaskReport)
     (new : WorldState) : Type 0 where
-  pub label : IsLabel rules.kinds rules.options rules.plan task moment report.outcome
+  pub label : IsOutcomeOf rules.kinds rules.options rules.plan task moment report.outcome
       ⊎ IsOfMachine rules moment task report.outcome new
   pub leaves : Leaves rules.kinds rules.options task moment.world report.outcome new.world
   pub prints : Prints rules.kinds rules.options task moment.world report.outcome report.lines

@@ -25,7 +25,7 @@ use Rattle.gb_meaning.specs.Memory.{Memory}
 use Rattle.gb_plan.specs.Graph.{Registry, IsRegistry, build_folder}
 use Rattle.gb_meaning.specs.Execution.{Guard, heard_of}
 use Rattle.gb_history.specs.Record.{Record}
-use Rattle.gb_meaning.specs.TrueRecord.{RecordTexts, SaysNoRecord, AreCollisionFree}
+use Rattle.gb_meaning.specs.TrueRecord.{RecordTexts, IsTextOfNoRecord, AreCollisionFree}
 use Rattle.gb_meaning.specs.TrueRecord.{HoldsTrue, outside, memory_contents}
 use Rattle.gb_core.specs.Path.{is_task_path}
 use Rattle.gb_meaning.specs.Edits.{Shown}
@@ -71,7 +71,7 @@ abbrev pub TornWritesAreDetected : RecordTexts → (Path → Place) → Tearing 
 TornWritesAreDetected says record_place may_leave =
     (path : Path) (old new left : Option Bytes) → IsTrue (is_task_path path) → IsOfTool says path new
     → may_leave (record_place path) old new left →
-    (left ≡ old) ⊎ (left ≡ new) ⊎ SaysNoRecord says path left
+    (left ≡ old) ⊎ (left ≡ new) ⊎ IsTextOfNoRecord says path left
 
 abbrev pub is_of_device : Fault → Bool
 is_of_device (faults.Device place) = true
@@ -82,15 +82,15 @@ failed_by_device (outcomes.Failed fault) = is_of_device fault
 failed_by_device other = false
 
 -- how many faults in a result are attributed to the device
-abbrev pub times_blamed : Answer → ℕ
-times_blamed answers.Edited = 0
-times_blamed (answers.Refused fault) = cond (is_of_device fault) 1 0
-times_blamed (answers.Built report) = count_by (λ task. failed_by_device task.outcome) report.tasks
-times_blamed (answers.NotBuilt fault) = cond (is_of_device fault) 1 0
+abbrev pub times_attributed : Answer → ℕ
+times_attributed answers.Edited = 0
+times_attributed (answers.Refused fault) = cond (is_of_device fault) 1 0
+times_attributed (answers.Built report) = count_by (λ task. failed_by_device task.outcome) report.tasks
+times_attributed (answers.NotBuilt fault) = cond (is_of_device fault) 1 0
 
-abbrev pub times_blamed_in_all : List Answer → ℕ
-times_blamed_in_all [] = 0
-times_blamed_in_all (answer ∷ rest) = times_blamed answer + times_blamed_in_all rest
+abbrev pub times_attributed_in_all : List Answer → ℕ
+times_attributed_in_all [] = 0
+times_attributed_in_all (answer ∷ rest) = times_attributed answer + times_attributed_in_all rest
 
 -- The device failed at least so often between these counts. A count at its last value shows no more.
 abbrev pub HasFailed : ℕ → ℕ → ℕ → Type 0

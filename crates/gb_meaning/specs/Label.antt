@@ -55,8 +55,8 @@ early_case task folder =
 
 -- ---- Up to date
 
--- The task has outputs and is not stale, no rerun is requested, and what is remembered of it is what it has
--- now.
+-- The task has outputs and no false `upToDateWhen`, no rerun is requested, and what is remembered of it is
+-- what it has now.
 pub record IsCurrent (options : Options) (task : Task) (world : World) : Type 0 where
   pub has_outputs : is_empty task.outputs ≡ false
   pub not_stale : task.is_stale ≡ false
@@ -119,19 +119,19 @@ EndsWith (Some fault) outcome = outcome ≡ outcomes.Failed fault
 
 -- The outcome of a started task, by the first case that holds: skipped; no actions; unreadable inputs; no
 -- source; up to date; run.
-abbrev pub IsLabelAt : Kinds → Options → Plan → Task → Moment → Option Early → Outcome → Type 0
-IsLabelAt kinds options plan task moment (Some Skips) outcome = outcome ≡ outcomes.Skipped
-IsLabelAt kinds options plan task moment (Some HasNoActions) outcome =
+abbrev pub IsOutcomeAt : Kinds → Options → Plan → Task → Moment → Option Early → Outcome → Type 0
+IsOutcomeAt kinds options plan task moment (Some Skips) outcome = outcome ≡ outcomes.Skipped
+IsOutcomeAt kinds options plan task moment (Some HasNoActions) outcome =
     outcome ≡
     (if some_outcome is_executed moment (needs_in plan task) then outcomes.Executed else outcomes.UpToDate)
-IsLabelAt kinds options plan task moment (Some (CannotRead hindrances)) outcome =
+IsOutcomeAt kinds options plan task moment (Some (CannotRead hindrances)) outcome =
     (fault : Fault) × (first_of hindrances ≡ Some fault) × (outcome ≡ outcomes.Failed fault)
-IsLabelAt kinds options plan task moment (Some HasNoSource) outcome = outcome ≡ outcomes.NoSource
-IsLabelAt kinds options plan task moment None outcome =
+IsOutcomeAt kinds options plan task moment (Some HasNoSource) outcome = outcome ≡ outcomes.NoSource
+IsOutcomeAt kinds options plan task moment None outcome =
     (IsCurrent options task moment.world × (outcome ≡ outcomes.UpToDate))
     ⊎ ((¬ IsCurrent options task moment.world)
     × EndsWith (run_of kinds task moment.world.folder.files).fault outcome)
 
-abbrev pub IsLabel : Kinds → Options → Plan → Task → Moment → Outcome → Type 0
-IsLabel kinds options plan task moment outcome =
-    IsLabelAt kinds options plan task moment (early_case task moment.world.folder) outcome
+abbrev pub IsOutcomeOf : Kinds → Options → Plan → Task → Moment → Outcome → Type 0
+IsOutcomeOf kinds options plan task moment outcome =
+    IsOutcomeAt kinds options plan task moment (early_case task moment.world.folder) outcome

@@ -12,7 +12,7 @@ use Rattle.gb_plan.specs.declared.task.TaskDeclaration.{TaskDeclaration as Task}
 use Rattle.gb_report.specs.declared.report.Report.{Report}
 use Rattle.gb_meaning.specs.declared.events.Invocation.{Invocation}
 use Rattle.gb_plan.specs.Refusal.{request_of}
-use Rattle.gb_plan.specs.Graph.{Registry, IsRegistry, Request, IsPlan, Plan, needs_in}
+use Rattle.gb_plan.specs.Graph.{Registry, Request, IsPlan, Plan, needs_in}
 use Rattle.gb_plan.specs.declared.plan.Planned.{Planned}
 use Rattle.gb_meaning.specs.Label.{Moment, some_outcome}
 use Rattle.gb_report.specs.Outcome.{is_executed}
@@ -40,8 +40,8 @@ PrintsNothing outcomes.NoSource report = report.lines ≡ []
 PrintsNothing (outcomes.Failed fault) report = Unit {0}
 PrintsNothing outcomes.NotRun report = report.lines ≡ []
 
--- Which outcomes a started task with actions may have that is not skipped: up to date only with outputs, not
--- stale and without a requested rerun, and without source only where a property skips it.
+-- Which outcomes a started task with actions may have that is not skipped: up to date only with outputs,
+-- without a false `upToDateWhen` or a requested rerun, and without source only where a property skips it.
 abbrev pub MayAnswer : Options → Task → Outcome → Type 0
 MayAnswer options task outcomes.Executed = Unit {0}
 MayAnswer options task outcomes.UpToDate =
@@ -51,8 +51,8 @@ MayAnswer options task outcomes.NoSource = IsTrue (list_any (λ property. proper
 MayAnswer options task (outcomes.Failed fault) = Unit {0}
 MayAnswer options task outcomes.NotRun = ⊥
 
--- the outcome of a started task that is skipped, or has no actions: its label, or out of memory; for others,
--- one that they may have
+-- the outcome of a started task that is skipped, or has no actions: that of the rules, or out of memory;
+-- for others, one that they may have
 abbrev pub AnswersAlone : Options → Plan → Moment → Task → Bool → Bool → Outcome → Type 0
 AnswersAlone options plan moment task false idle outcome =
     (outcome ≡ outcomes.Skipped) ⊎ (outcome ≡ outcomes.Failed faults.OutOfMemory)
@@ -94,9 +94,3 @@ pub record IsOutlinedBy (registry : Registry) (invocation : Invocation) (report 
   pub planned : IsPlan request plan
   pub dry_run : report.dry_run ≡ invocation.options.dry_run
   pub outlines : Outlines invocation.options plan report.tasks
-
--- The same where it is not known what the folder's scripts register: they register something.
-pub record IsOutlined (invocation : Invocation) (report : Report) : Type 0 where
-  pub registry : Registry
-  pub is_registry : IsRegistry registry
-  pub outlined : IsOutlinedBy registry invocation report

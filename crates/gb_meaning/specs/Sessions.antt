@@ -12,7 +12,7 @@ use Rattle.gb_meaning.specs.Memory.{Memory}
 use Rattle.gb_meaning.specs.Edits.{Shown}
 use Rattle.gb_meaning.specs.Events.{Setting, State}
 use Rattle.gb_meaning.specs.Headline.{EventsHold, Registering, HoldsMemory, WentThrough, state_of}
-use Rattle.gb_meaning.specs.Every.{AllCollisionFree, AllSucceed, PlainRun}
+use Rattle.gb_meaning.specs.Every.{AllCollisionFree, AllSucceed, UnconditionalRun}
 
 -- One use of the tool: the folder that it found, the events and their results, and the folder that it left.
 pub record Session : Type 0 where
@@ -67,7 +67,7 @@ module _ (setting : Setting) (registers : ℕ → Registering) (may_leave : ℕ 
       (states : List State)
       × WentThrough (setting_at number) start states session.events session.answers session.end
       × (AllCollisionFree setting start states
-      → PlainRun (setting_at number) start states session.events session.answers session.end
+      → UnconditionalRun (setting_at number) start states session.events session.answers session.end
       × AllSucceed (setting_at number) start states session.events session.answers session.end
       × AllHold (suc number) (remembered_after start.remembered states) rest)
 

@@ -65,13 +65,13 @@ abbrev pub RecordTexts : Type 1
 RecordTexts = Path → Record → Bytes → Type 0
 
 -- no text of a record of the task is left
-abbrev pub SaysNoRecord : RecordTexts → Path → Option Bytes → Type 0
-SaysNoRecord says path None = ⊤
-SaysNoRecord says path (Some bytes) = (said : Record) → ¬ says path said bytes
+abbrev pub IsTextOfNoRecord : RecordTexts → Path → Option Bytes → Type 0
+IsTextOfNoRecord says path None = ⊤
+IsTextOfNoRecord says path (Some bytes) = (said : Record) → ¬ says path said bytes
 
 -- what is left is the text of the entry's record, or without an entry that of no record
 abbrev pub Stores : (Bytes → List ℕ) → RecordTexts → Path → Option Bytes → Option Entry → Type 0
-Stores digest says path left None = SaysNoRecord says path left
+Stores digest says path left None = IsTextOfNoRecord says path left
 Stores digest says path left (Some entry) =
     (bytes : Bytes) × (left ≡ Some bytes) × says path (record_of digest entry) bytes
 

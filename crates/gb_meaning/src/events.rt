@@ -43,7 +43,8 @@ pub enum Event {
 pub enum Answer {
     /// The edit was made.
     Edited,
-    /// An edit was refused, and nothing changed except where the device failed in it.
+    /// An edit was refused. A refused `Put` or `Remove` changed nothing, unless the device failed in it;
+    /// a refused `Lost` may have lost a part.
     Refused(Fault),
     /// The build ran; a task of it may have failed.
     Built(Report),

@@ -1,6 +1,6 @@
 //! Laws of the definitions, each the contract of a function that does nothing.
-ghost use Rattle.gb_meaning.specs.Every.{ClearRunIsPlain, EverySuccessIsFromScratch, Headline};
-ghost use Rattle.gb_meaning.specs.Assumed.{MemoryGrants, SomeKindsAgree};
+ghost use Rattle.gb_meaning.specs.Every.{ClearRunIsUnconditional, EverySuccessIsFromScratch, Headline};
+ghost use Rattle.gb_meaning.specs.Assumed.{PremisesHoldInMemory, SomeKindsAgree};
 ghost use Rattle.gb_meaning.specs.Pinned.{StatesAreOne};
 ghost use Rattle.gb_meaning.specs.Promise.{SuccessIsFromScratch, TruthIsKept, UpToDateIsMade};
 ghost use Rattle.gb_meaning.specs.Run.{EndedIsMade};
@@ -8,7 +8,7 @@ ghost use Rattle.gb_meaning.specs.Sessions.{HeadlineOfSessions};
 
 use gb_action::actions::Actions;
 
-/// The parameters of runs of events.
+/// The parameters of the laws on lists of events.
 pub trait Grounds {
     ghost use Rattle.gb_meaning.specs.Events.{Setting};
 
@@ -42,8 +42,8 @@ pub fn every_success_is_from_scratch<G: Grounds>()
 {}
 
 /// Where no two contents of a run share a digest, every step of it is unconditional.
-pub fn clear_run_is_plain<G: Grounds>()
-    ensures { ClearRunIsPlain G.setting }
+pub fn clear_run_is_unconditional<G: Grounds>()
+    ensures { ClearRunIsUnconditional G.setting }
 {}
 
 /// The results of a run determine its states, where no task failed, no device stopped an edit and
@@ -52,7 +52,7 @@ pub fn states_are_one<G: Grounds>()
     ensures { StatesAreOne G.setting }
 {}
 
-/// What a run of any events promises, in one sentence.
+/// What any list of events promises, in one sentence.
 pub fn headline<G: Grounds>()
     ensures { Headline G.setting }
 {}
@@ -87,6 +87,6 @@ pub fn some_kinds_agree<A: Actions>()
 {}
 
 /// An empty folder in memory satisfies what a run requires of the folder and of the device.
-pub fn memory_grants<G: Grounds>()
-    ensures { MemoryGrants G.setting }
+pub fn premises_hold_in_memory<G: Grounds>()
+    ensures { PremisesHoldInMemory G.setting }
 {}

@@ -451,7 +451,7 @@ const REMEMBERED: [RememberedRow; 9] = [
         ".gb/new/1 ;.gb/new/1 ;ok;;",
         ".gb/new/1 ;.gb/new/1 ;ok;;",
     ),
-    // A change beside the root does not end it.
+    // A change next to the root does not end it.
     (
         "write o/a;write p;list o;!put o/b x;write ox;remove p;list o;read o/b",
         "ok;ok;o/a ;ok;ok;o/a ;x;",

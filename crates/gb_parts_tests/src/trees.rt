@@ -141,7 +141,7 @@ fn files_asked<F: Folder>(
     }
 }
 
-/// The prints of an output as it is read where these files were seen.
+/// The prints of an output as it is read where the digests of these files are remembered.
 fn prints_read<F: Folder>(
     alloc: Global,
     folder: &mut F,
@@ -613,7 +613,7 @@ const DIGESTS: [Row; 9] = [
          src j 1901da1c9f699b48f6b2636e65cbf73abf99d0441ef67f5c540a42f7051dec6f\n\
          src k 4b227777d4dd1fc61c6f884f48641d02b4d121d3fd328cb08b5531fcacdabf8a\n;",
     ),
-    // A file that was read ahead, and one beside it. What cannot be read ahead is passed over.
+    // A file that was read ahead, and one next to it. What cannot be read ahead is passed over.
     (
         "put m/a abc;put m/b;ahead-digests m m/a;ahead-digests m n",
         "src a ba7816bf8f01cfea414140de5dae2223b00361a396177a9cb410ff61f20015ad\n\

@@ -6,7 +6,7 @@ use Rattle.gb_folder.specs.Files.{is_empty}
 use Rattle.gb_plan.specs.declared.plan.Planned.{Planned}
 use Rattle.gb_plan.specs.declared.task.TaskDeclaration.{TaskDeclaration}
 use Rattle.gb_plan.specs.Task.{Text, Path}
-use Rattle.gb_plan.specs.Graph.{Registry, IsRegistry, Request, Plan, Reached, start, step, order, selected, selected_by, brings, leaves_out, is_scheduled_in, is_in_order, IsScheduled, WordReaches, IsFirstWord, IsSchedule, IsPlan, IsReadInOrder}
+use Rattle.gb_plan.specs.Graph.{IsRegistry, Request, Plan, Reached, start, step, order, selected, selected_by, brings, leaves_out, is_scheduled_in, is_in_order, IsScheduled, WordReaches, IsFirstWord, IsSchedule, IsPlan, IsReadInOrder}
 use Rattle.gb_plan.specs.Refusal.{request_of}
 use Rattle.gb_plan.proofs.Tests.{at_each, not_true, not_false, reached_in}
 use Rattle.gb_plan.proofs.Same.{plans_are_one}

@@ -6,7 +6,7 @@ use Rattle.gb_action.specs.Changes.{Changes, changes_between}
 use Rattle.gb_action.specs.Files.{Tree, Trees, tree_at}
 use Rattle.gb_folder.specs.Files.{Contents, Files, is_empty}
 use Rattle.gb_meaning.specs.Kinds.{Kinds}
-use Rattle.gb_meaning.specs.Label.{AreChanges, CannotRead, Early, EndsWith, HasNoActions, HasNoSource, IsCurrent, IsIncremental, IsLabel, IsLabelAt, Moment, Skips, changes_from, early_case, has_one_writer, run_of, some_outcome}
+use Rattle.gb_meaning.specs.Label.{AreChanges, CannotRead, Early, EndsWith, HasNoActions, HasNoSource, IsCurrent, IsIncremental, IsOutcomeOf, IsOutcomeAt, Moment, Skips, changes_from, early_case, has_one_writer, run_of, some_outcome}
 use Rattle.gb_meaning.specs.Memory.{World, entry_of, output_files, recalled}
 use Rattle.gb_meaning.specs.Tree.{has_no_source, input_faults, listing_faults, tree_of, trees_of}
 use Rattle.gb_meaning.specs.Execution.{Prints, lines_of}
@@ -200,11 +200,11 @@ module _ (kinds : Kinds) (options : Options) (plan : Plan) (task : Task) (moment
   has_run None is = inl is
   has_run (Some fault) is = inr (fault, is)
 
-  at_case : (case : Option Early) → early_case task moment.world.folder ≡ case → IsLabel kinds options plan task moment outcome
-      → IsLabelAt kinds options plan task moment case outcome
-  at_case case e label = subst (λ (c : Option Early). IsLabelAt kinds options plan task moment c outcome) e label
+  at_case : (case : Option Early) → early_case task moment.world.folder ≡ case → IsOutcomeOf kinds options plan task moment outcome
+      → IsOutcomeAt kinds options plan task moment case outcome
+  at_case case e label = subst (λ (c : Option Early). IsOutcomeAt kinds options plan task moment c outcome) e label
 
-  runs_if : (¬ IsCurrent options task moment.world) → IsLabelAt kinds options plan task moment None outcome → HasRun outcome
+  runs_if : (¬ IsCurrent options task moment.world) → IsOutcomeAt kinds options plan task moment None outcome → HasRun outcome
   runs_if not_current (inl current) = absurd (not_current current.0)
   runs_if not_current (inr run) = has_run (run_of kinds task moment.world.folder.files).fault run.1
 
@@ -216,12 +216,12 @@ module _ (kinds : Kinds) (options : Options) (plan : Plan) (task : Task) (moment
   idle true e = inr e
   idle false e = inl e
 
-  up_to_date : IsCurrent options task moment.world → IsLabelAt kinds options plan task moment None outcome → outcome ≡ outcomes.UpToDate
+  up_to_date : IsCurrent options task moment.world → IsOutcomeAt kinds options plan task moment None outcome → outcome ≡ outcomes.UpToDate
   up_to_date current (inl is) = is.1
   up_to_date current (inr run) = absurd (run.0 current)
 
-  -- the label of a task is its predicted outcome
-  pub fits : (coming : PredictedOutcome) → IsPredicted kinds options task moment.world coming → IsLabel kinds options plan task moment outcome → Fits coming outcome
+  -- the outcome of a task is its predicted one
+  pub fits : (coming : PredictedOutcome) → IsPredicted kinds options task moment.world coming → IsOutcomeOf kinds options plan task moment outcome → Fits coming outcome
   fits comings.Skips is label = at_case (Some Skips) is label
   fits comings.HasNoActions is label = idle (some_outcome is_executed moment (needs_in plan task)) (at_case (Some HasNoActions) is label)
   fits (comings.HasNoSource removes) is label = at_case (Some HasNoSource) is.0 label

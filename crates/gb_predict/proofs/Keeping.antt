@@ -8,7 +8,7 @@ use Rattle.gb_core.specs.Place.{is_under}
 use Rattle.gb_folder.specs.Files.{Bytes, DiffersOnlyAt, Files, Place, files_where, is_empty}
 use Rattle.gb_meaning.specs.Every.{always}
 use Rattle.gb_meaning.specs.Kinds.{Kinds}
-use Rattle.gb_meaning.specs.Label.{IsLabel, Moment}
+use Rattle.gb_meaning.specs.Label.{IsOutcomeOf, Moment}
 use Rattle.gb_meaning.specs.Memory.{Entry, World, entry_of, folder_contents, forget, output_files, recalled, remember}
 use Rattle.gb_meaning.specs.Made.{with_outputs}
 use Rattle.gb_meaning.specs.Tree.{input_faults, listing_faults, trees_of}
@@ -326,7 +326,7 @@ module _ (rules : Rules) (once : no_repeats (order rules.plan) ≡ true) (sound 
           (λ reads. turned_round planned.task moment.world now (same_there unmarked reads)) predicted
 
       module _ (report : TaskReport) (next : WorldState) (started : StartedExecution rules moment planned.task report next) where
-        fits_there : one.after ≡ None → IsLabel rules.kinds rules.options rules.plan planned.task moment report.outcome → Fits one.coming report.outcome
+        fits_there : one.after ≡ None → IsOutcomeOf rules.kinds rules.options rules.plan planned.task moment report.outcome → Fits one.coming report.outcome
         fits_there unmarked label =
             fits rules.kinds rules.options rules.plan planned.task moment report.outcome one.coming (predicted_there unmarked) label
 

@@ -20,6 +20,8 @@
 //! true memory, that no two contents share a digest, and that no prediction is a failure of the
 //! machine (`IsOfFolder`). Both leave out a task that does not start. Before the first failure
 //! there is none, which the laws do not say.
+//!
+//! What was set aside: `docs/DECISIONS.md#executions-and-runs`.
 #![tactic(auto)]
 
 mod explained;

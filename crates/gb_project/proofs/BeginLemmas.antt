@@ -6,7 +6,7 @@ use Rattle.std.specs.BTreeMap.{is_at}
 use Rattle.std.specs.FinMap.Entries.{find}
 use Rattle.std.specs.List.{AllByRecursion, flat_map}
 use Rattle.std.specs.Map.{lookup}
-use Rattle.gb_evaluate.proofs.KnownLemmas.{paths_are}
+use Rattle.gb_project.proofs.KnownLemmas.{paths_are}
 use Rattle.gb_core.specs.Lists.{byte_order}
 use Rattle.gb_provider.specs.declared.expression.Expression.{Expression}
 use Rattle.gb_registry.proofs.Separate.{are_new}
@@ -20,13 +20,13 @@ use Rattle.gb_registry.specs.Tables.{Tables}
 use Rattle.gb_script.specs.declared.script.Statement.{Statement}
 use Rattle.gb_declare.specs.Joined.{Named}
 use Rattle.gb_declare.specs.Whole.{spots, whole}
-use Rattle.gb_nodes.proofs.BuildLemmas.{builds_are_places}
+use Rattle.gb_declare.proofs.BuildLemmas.{builds_are_places}
 use Rattle.gb_registry.proofs.Fine.{nil_prefix}
-use Rattle.gb_nodes.proofs.InTableLemmas as existing
-use Rattle.gb_nodes.specs.Grown.{IsRight}
-use Rattle.gb_nodes.specs.Scripts.{build_faults}
-use Rattle.gb_nodes.specs.Site.{AreThere, Site}
-use Rattle.gb_nodes.specs.InTable.{AreSaid, scripts_faults, scripts_made, sites_made}
+use Rattle.gb_declare.proofs.NodesInTableLemmas as existing
+use Rattle.gb_declare.specs.Grown.{IsRight}
+use Rattle.gb_declare.specs.Scripts.{build_faults}
+use Rattle.gb_declare.specs.Site.{AreThere, Site}
+use Rattle.gb_declare.specs.NodesInTable.{AreSaid, scripts_faults, scripts_made, sites_made}
 use Rattle.gb_project.specs.Kept.{AreDeclared}
 use Rattle.gb_project.specs.Stage.{AreAllGood, begun, with_scripts}
 use Rattle.gb_project.specs.Steps.{Begins, task_paths}

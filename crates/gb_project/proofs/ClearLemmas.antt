@@ -24,11 +24,11 @@ use Rattle.gb_tree.specs.Pattern.{is_pattern}
 use Rattle.gb_declare.specs.Declaring.{call_faults, clash_faults, clause_faults, clauses_faults, faults_within, files_faults, main_faults, pattern_faults, shape_faults, trees_faults}
 use Rattle.gb_declare.specs.Joined.{Made, Named, enabled_in, files_in, first_in, joined, last_in, only_if_in, output_in, up_to_date_when_in, value_in}
 use Rattle.gb_declare.specs.Whole.{trees_of as expressions_of}
-use Rattle.gb_nodes.specs.Site.{Site}
-use Rattle.gb_nodes.specs.Wrong.{link_faults, making_faults, root_faults}
-use Rattle.gb_nodes.proofs.FoundLemmas.{HasNodesOf, among_if_none, made_good, nil_both}
+use Rattle.gb_declare.specs.Site.{Site}
+use Rattle.gb_declare.specs.Wrong.{link_faults, making_faults, root_faults}
+use Rattle.gb_declare.proofs.FoundLemmas.{HasNodesOf, among_if_none, made_good, nil_both}
 use Rattle.gb_registry.proofs.Fine.{nil_back, nil_prefix}
-use Rattle.gb_evaluate.specs.Parts.{HasPatterns, HavePatterns}
+use Rattle.gb_project.specs.Parts.{HasPatterns, HavePatterns}
 use Rattle.gb_project.proofs.ListLemmas.{all_by_name, all_joined, all_mapped, all_picked, all_reversed, both_all, last_all}
 
 -- ---- Patterns

@@ -1,3 +1,13 @@
+pub mod KnownLemmas
+pub mod AskLemmas
+pub mod ReportLemmas
+pub mod WalkLemmas
+pub mod RowValueLemmas
+pub mod NeedLemmas
+pub mod OutputValueLemmas
+pub mod PartLemmas
+pub mod FileLemmas
+pub mod EvaluatedLemmas
 pub mod BeginLemmas
 pub mod BlockLemmas
 pub mod ClearLemmas

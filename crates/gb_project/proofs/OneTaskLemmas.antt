@@ -21,15 +21,15 @@ use Rattle.gb_declare.specs.Joined as tasks
 use Rattle.gb_declare.specs.Joined.{Joined, Named, joined}
 use Rattle.gb_declare.specs.Spots.{Spot, Made, parts}
 use Rattle.gb_declare.specs.Whole.{number_of, output_spots, spots, trees_of, whole}
-use Rattle.gb_nodes.proofs.FoundLemmas.{HasNodesOf}
-use Rattle.gb_nodes.proofs.GrownLemmas.{rows_grow_so}
-use Rattle.gb_nodes.proofs.PlacedLemmas.{IsAmong, parts_in_table}
-use Rattle.gb_nodes.specs.Complete.{IsLaidOut, place_in_whole}
-use Rattle.gb_nodes.specs.Grown.{IsRight, IsRowGrown, IsInTable}
-use Rattle.gb_nodes.specs.Nodes.{Made as These}
-use Rattle.gb_nodes.specs.Site.{Site}
-use Rattle.gb_nodes.specs.Wrong.{link_faults, root_faults}
-use Rattle.gb_nodes.proofs.ScriptLemmas.{among_prefix}
+use Rattle.gb_declare.proofs.FoundLemmas.{HasNodesOf}
+use Rattle.gb_declare.proofs.GrownLemmas.{rows_grow_so}
+use Rattle.gb_declare.proofs.PlacedLemmas.{IsAmong, parts_in_table}
+use Rattle.gb_declare.specs.Complete.{IsLaidOut, place_in_whole}
+use Rattle.gb_declare.specs.Grown.{IsRight, IsRowGrown, IsInTable}
+use Rattle.gb_declare.specs.Nodes.{Made as These}
+use Rattle.gb_declare.specs.Site.{Site}
+use Rattle.gb_declare.specs.Wrong.{link_faults, root_faults}
+use Rattle.gb_declare.proofs.ScriptLemmas.{among_prefix}
 use Rattle.gb_project.specs.Kept.{AreKept, IsKept, IsKeptAs}
 use Rattle.gb_project.specs.Stage.{DeclaredTask, Stage, output_of, output_row, put_output, row_made, with_outputs}
 use Rattle.gb_project.proofs.ClearLemmas.{expressions_clear, row_good}

@@ -9,7 +9,7 @@ use Rattle.gb_provider.specs.declared.expression.Node.{Node}
 use Rattle.gb_provider.specs.declared.fault.Chosen.{Chosen}
 use Rattle.gb_registry.specs.Projects.{Path}
 use Rattle.gb_declare.specs.Joined.{Made, Named}
-use Rattle.gb_nodes.specs.Statements.{IsRun}
+use Rattle.gb_declare.specs.Statements.{IsRun}
 use Rattle.gb_project.specs.Stage.{output_of, put_output, with_output, with_outputs}
 
 -- ---- One output

@@ -13,8 +13,8 @@ use Rattle.gb_registry.specs.Tables.{Tables}
 use Rattle.gb_script.specs.declared.script.Statement.{Statement}
 use Rattle.gb_script.specs.declared.script.Statement.TheVariants.{DefaultTasks, Property, Set, Convention, Unset, DisallowChanges, Register, Named}
 use Rattle.gb_declare.specs.Spots.{Spot}
-use Rattle.gb_nodes.specs.Grown.{IsRight}
-use Rattle.gb_nodes.specs.Site.{AreThere, Site}
+use Rattle.gb_declare.specs.Grown.{IsRight}
+use Rattle.gb_declare.specs.Site.{AreThere, Site}
 use Rattle.gb_project.specs.Steps.{Begins, task_paths}
 use Rattle.gb_project.specs.Tasks.{registered_in, script_tasks}
 

@@ -33,8 +33,7 @@ use Rattle.gb_declare.specs.Joined as joined
 use Rattle.gb_declare.specs.Joined.{Joined, Named}
 use Rattle.gb_declare.specs.Spots.{Spot, Written, Made, is_spot, parts, spot_of}
 use Rattle.gb_declare.specs.Whole.{expression_at, given_value, if_found, number_of, output_spots, spots, statement_spots, task_spots, trees_of, whole}
-use Rattle.gb_nodes.proofs.LaidLemmas.{at_place}
-use Rattle.gb_nodes.proofs.PlacedLemmas.{IsAmong, IsWritten, middle, parts_written}
+use Rattle.gb_declare.proofs.PlacedLemmas.{IsAmong, IsWritten, middle, parts_written}
 use Rattle.gb_project.proofs.ListLemmas.{all_at, both_all}
 use Rattle.gb_project.proofs.OnceLemmas.{Separate, separate_same, name_in, path_of}
 

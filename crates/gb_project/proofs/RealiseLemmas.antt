@@ -11,7 +11,7 @@ use Rattle.gb_registry.specs.Source.{Source}
 use Rattle.gb_registry.specs.Tables.{Tables}
 use Rattle.gb_declare.specs.Realised.{Trouble, Plain, Endless, realised}
 use Rattle.gb_declare.specs.Reported.{IsReported}
-use Rattle.gb_evaluate.specs.Over.{Reports}
+use Rattle.gb_project.specs.Over.{Reports}
 use Rattle.gb_project.proofs.FindLemmas.{find_made, found_made}
 use Rattle.gb_declare.proofs.CircleNamesLemmas.{reported_by_names}
 use Rattle.gb_declare.proofs.RisingLemmas.{realised_names_rise}

@@ -5,8 +5,8 @@ use Rattle.std.proofs.lemmas.List.{length-map, map-append}
 use Rattle.gb_provider.specs.Rules.{numbers_of}
 use Rattle.gb_provider.specs.declared.expression.Node.{Node}
 use Rattle.gb_declare.specs.Joined.{Joined}
-use Rattle.gb_evaluate.specs.Parts.{AreCounted, row_of}
-use Rattle.gb_evaluate.specs.declared.parts.Parts.{Parts}
+use Rattle.gb_project.specs.Parts.{AreCounted, row_of}
+use Rattle.gb_project.specs.declared.parts.Parts.{Parts}
 use Rattle.gb_project.specs.Stage.{before_outputs, output_row}
 
 middle : {X : Type 0} (prefix these back : List X) (n m : ℕ) → length prefix ≡ n → length these ≡ m → take m (drop n ((prefix ++ these) ++ back)) ≡ these

@@ -15,7 +15,7 @@ use Rattle.gb_script.specs.declared.script.Statement.{Statement}
 use Rattle.gb_script.specs.declared.script.Statement.TheVariants.{Register}
 use Rattle.gb_declare.specs.Declaring.{scope_in}
 use Rattle.gb_declare.specs.Joined.{Joined}
-use Rattle.gb_nodes.specs.Site.{Site}
+use Rattle.gb_declare.specs.Site.{Site}
 use Rattle.gb_project.proofs.TaskLemmas.{length_last}
 use Rattle.gb_project.specs.Stage.{IsGood, Stage, declared_in, with_declared, with_task}
 use Rattle.gb_project.specs.Steps.{Begins, declared_within, task_paths, with_any}

@@ -26,15 +26,15 @@ use Rattle.gb_declare.proofs.ViewLemmas.{known_path}
 use Rattle.gb_declare.specs.Declaring.{block_scope, declared, declaring_faults, faults_within, scope_in, unless}
 use Rattle.gb_declare.specs.Joined.{Joined, Named, joined, output_in}
 use Rattle.gb_declare.specs.Whole.{spots, trees_of, whole}
-use Rattle.gb_nodes.proofs.FoundLemmas.{HasNodesOf}
+use Rattle.gb_declare.proofs.FoundLemmas.{HasNodesOf}
 use Rattle.gb_registry.proofs.Fine.{nil_back, nil_prefix}
-use Rattle.gb_nodes.proofs.ScriptLemmas as separate
-use Rattle.gb_nodes.proofs.ScriptLemmas.{named_has}
-use Rattle.gb_nodes.proofs.InTableLemmas as existing
-use Rattle.gb_nodes.specs.Grown.{IsRight}
-use Rattle.gb_nodes.specs.Scripts.{script_made, script_site}
-use Rattle.gb_nodes.specs.Site.{Site}
-use Rattle.gb_nodes.specs.InTable.{AreSaid, AreInTable, scripts_made, sites_made}
+use Rattle.gb_declare.proofs.ScriptLemmas as separate
+use Rattle.gb_declare.proofs.ScriptLemmas.{named_has}
+use Rattle.gb_declare.proofs.NodesInTableLemmas as existing
+use Rattle.gb_declare.specs.Grown.{IsRight}
+use Rattle.gb_declare.specs.Scripts.{script_made, script_site}
+use Rattle.gb_declare.specs.Site.{Site}
+use Rattle.gb_declare.specs.NodesInTable.{AreSaid, AreInTable, scripts_made, sites_made}
 use Rattle.gb_project.specs.Kept.{AreDeclared, TasksAreGood, TasksInTable}
 use Rattle.gb_project.specs.Stage.{AreAllGood, IsGood, Stage, begun, declared_in, with_declared, with_scripts, with_task}
 use Rattle.gb_project.specs.Tasks.{registered_in, script_tasks}

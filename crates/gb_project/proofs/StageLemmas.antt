@@ -21,13 +21,13 @@ use Rattle.gb_declare.proofs.GrowLemmas.{part_grows}
 use Rattle.gb_declare.specs.Circles.{is_named}
 use Rattle.gb_declare.specs.Growing.{extended}
 use Rattle.gb_declare.specs.Joined as tasks
-use Rattle.gb_declare.specs.Joined.{Joined, Named, joined}
+use Rattle.gb_declare.specs.Joined.{Joined, Named}
 use Rattle.gb_declare.specs.Partly.{IsPartOf, renamed}
 use Rattle.gb_declare.specs.Whole.{trees_of, whole}
-use Rattle.gb_nodes.proofs.GrownLemmas.{at_prefix, at_last}
-use Rattle.gb_nodes.specs.Complete.{IsLaidOut}
-use Rattle.gb_nodes.specs.Grown.{IsRowGrown}
-use Rattle.gb_nodes.specs.Nodes.{Made as These}
+use Rattle.gb_declare.proofs.GrownLemmas.{at_prefix, at_last}
+use Rattle.gb_declare.specs.Complete.{IsLaidOut}
+use Rattle.gb_declare.specs.Grown.{IsRowGrown}
+use Rattle.gb_declare.specs.Nodes.{Made as These}
 use Rattle.gb_project.specs.Stage.{before_outputs, output_of, output_row}
 use Rattle.gb_project.proofs.PlaceLemmas.{named_renamed, never, output_itself, output_named, output_renamed, output_same, some_same, place_either, place_some, place_stays}
 

@@ -15,13 +15,13 @@ use Rattle.gb_declare.specs.Declaring.{block_scope}
 use Rattle.gb_declare.specs.Joined as tasks
 use Rattle.gb_declare.specs.Joined.{Joined, Named}
 use Rattle.gb_declare.specs.Whole.{build_folder, spots, whole}
-use Rattle.gb_nodes.proofs.FoundLemmas.{HasNodesOf}
-use Rattle.gb_nodes.proofs.GrownLemmas.{right_on}
-use Rattle.gb_nodes.specs.Complete.{IsLaidOut}
-use Rattle.gb_nodes.specs.Grown.{IsRight}
-use Rattle.gb_nodes.specs.Site.{Site}
-use Rattle.gb_nodes.proofs.ScriptLemmas.{among_prefix}
-use Rattle.gb_evaluate.specs.Parts.{HavePatterns}
+use Rattle.gb_declare.proofs.FoundLemmas.{HasNodesOf}
+use Rattle.gb_declare.proofs.GrownLemmas.{right_on}
+use Rattle.gb_declare.specs.Complete.{IsLaidOut}
+use Rattle.gb_declare.specs.Grown.{IsRight}
+use Rattle.gb_declare.specs.Site.{Site}
+use Rattle.gb_declare.proofs.ScriptLemmas.{among_prefix}
+use Rattle.gb_project.specs.Parts.{HavePatterns}
 use Rattle.gb_project.specs.Kept.{AreKept, IsKept}
 use Rattle.gb_project.specs.Stage.{DeclaredTask, Stage, with_declared}
 use Rattle.gb_project.proofs.ClearLemmas.{patterns_clear}

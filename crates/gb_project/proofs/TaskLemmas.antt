@@ -14,9 +14,9 @@ use Rattle.gb_declare.specs.Declaring.{unless}
 use Rattle.gb_declare.specs.Joined.{Joined}
 use Rattle.gb_declare.specs.Views.{joined_of}
 use Rattle.gb_declare.specs.declared.registered.Joined as read
-use Rattle.gb_nodes.specs.Nodes.{Made, AreMade, following, tree_made, trees_made}
-use Rattle.gb_nodes.specs.Site.{Site}
-use Rattle.gb_nodes.specs.Statements.{IsRun}
+use Rattle.gb_declare.specs.Nodes.{Made, AreMade, following, tree_made, trees_made}
+use Rattle.gb_declare.specs.Site.{Site}
+use Rattle.gb_declare.specs.Statements.{IsRun}
 use Rattle.gb_project.specs.Stage.{Stage, DeclaredTask, output_row, row_made, task_made, with_declared, with_outputs}
 use Rattle.gb_project.specs.Steps.{IsStaged}
 use Rattle.gb_project.specs.Views.{entries_of, entry_of, stage_of}

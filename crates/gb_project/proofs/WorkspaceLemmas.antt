@@ -8,8 +8,8 @@ use Rattle.std.proofs.lemmas.Option.{slice_get-map, slice_get_read, slice_get_wi
 use Rattle.std.proofs.lemmas.Bool.{lt-ltb}
 use Rattle.std.specs.Prelude.{All, bytes_eq, find, get_or, option_map, position, slice_get}
 use Rattle.std.specs.List.{AllByRecursion, position_or_len}
-use Rattle.gb_evaluate.proofs.KnownLemmas.{find_passes, paths_are, placed_at}
-use Rattle.gb_evaluate.specs.Over.{IsOver, Reports, fault_in, known_names}
+use Rattle.gb_project.proofs.KnownLemmas.{find_passes, paths_are, placed_at}
+use Rattle.gb_project.specs.Over.{IsOver, Reports, fault_in, known_names}
 use Rattle.gb_plan.proofs.Tests.{turned}
 use Rattle.gb_plan.specs.declared.task.TaskDeclaration.{TaskDeclaration}
 use Rattle.gb_provider.specs.Rules.{numbers_of}
@@ -29,9 +29,9 @@ use Rattle.gb_registry.specs.References.{lookup_faults}
 use Rattle.gb_declare.specs.Views.{joined_of}
 use Rattle.gb_declare.specs.Realised.{Plain, evaluated, first_or, realised, realised_at, realised_if}
 use Rattle.gb_declare.specs.Whole.{spots, trees_of, whole}
-use Rattle.gb_evaluate.specs.Evaluated.{IsBuiltIn}
-use Rattle.gb_evaluate.specs.Rows.{AreWithin, ReportsOf, numbers_in}
-use Rattle.gb_nodes.specs.Complete.{place_in_whole}
+use Rattle.gb_project.specs.Evaluated.{IsBuiltIn}
+use Rattle.gb_project.specs.Rows.{AreWithin, ReportsOf, numbers_in}
+use Rattle.gb_declare.specs.Complete.{place_in_whole}
 use Rattle.gb_project.specs.Kept.{AreKept, IsKept, IsKeptAs}
 use Rattle.gb_project.specs.Stage.{DeclaredTask}
 use Rattle.gb_project.specs.Views.{entries_of, entry_of, stage_of}

@@ -4,9 +4,9 @@ use Rattle.std.specs.List.{AllByRecursion}
 use Rattle.gb_declare.specs.Declaring.{declared}
 use Rattle.gb_declare.specs.Joined.{Named}
 use Rattle.gb_declare.specs.Whole.{build_folder, trees_of}
-use Rattle.gb_evaluate.specs.Parts.{HavePatterns}
-use Rattle.gb_nodes.specs.Complete.{IsComplete, place_in_whole}
-use Rattle.gb_nodes.specs.InTable.{AreSaid, scripts_made, sites_made}
+use Rattle.gb_project.specs.Parts.{HavePatterns}
+use Rattle.gb_declare.specs.Complete.{IsComplete, place_in_whole}
+use Rattle.gb_declare.specs.NodesInTable.{AreSaid, scripts_made, sites_made}
 use Rattle.gb_provider.specs.declared.expression.Expression.{Expression}
 use Rattle.gb_registry.specs.Projects.{Path}
 use Rattle.gb_registry.specs.Said.{Registered, tasks_of}

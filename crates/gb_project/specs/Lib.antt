@@ -1,3 +1,8 @@
+pub mod Over
+pub mod Given
+pub mod Rows
+pub mod Parts
+pub mod Evaluated
 pub mod Tasks
 pub mod Blocks
 pub mod Indexed

@@ -6,9 +6,9 @@ use Rattle.std.specs.Option.{option_to_list}
 use Rattle.gb_declare.specs.Declaring.{faults_within, scope_in, unless}
 use Rattle.gb_declare.specs.Joined.{Joined, Made, Named, joined}
 use Rattle.gb_declare.specs.Whole.{trees_of as expressions_of}
-use Rattle.gb_nodes.specs.Nodes.{Made as These, trees_made}
-use Rattle.gb_nodes.specs.Site.{Site}
-use Rattle.gb_nodes.specs.Wrong.{link_faults, root_faults}
+use Rattle.gb_declare.specs.Nodes.{Made as These, trees_made}
+use Rattle.gb_declare.specs.Site.{Site}
+use Rattle.gb_declare.specs.Wrong.{link_faults, root_faults}
 use Rattle.gb_provider.specs.Rules.{output_place}
 use Rattle.gb_provider.specs.Table.{Table}
 use Rattle.gb_provider.specs.declared.expression.Expression.{Expression}

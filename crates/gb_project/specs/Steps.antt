@@ -2,9 +2,9 @@
 use Rattle.std.specs.Prelude.{◌≡◌, ℕ, ◌≤◌, List, [], ◌∷◌, ◌++◌, length, map, Option, Some, None, Result}
 use Rattle.gb_declare.specs.Declaring.{faults_within, unless}
 use Rattle.gb_declare.specs.Joined.{Joined, Named, joined}
-use Rattle.gb_nodes.specs.Scripts.{laid_site}
-use Rattle.gb_nodes.specs.Site.{Site}
-use Rattle.gb_nodes.specs.declared.scripts.Laid.{Laid}
+use Rattle.gb_declare.specs.Scripts.{laid_site}
+use Rattle.gb_declare.specs.Site.{Site}
+use Rattle.gb_declare.specs.declared.scripts.Laid.{Laid}
 use Rattle.gb_provider.specs.Answers.{Held}
 use Rattle.gb_registry.specs.Projects.{Path}
 use Rattle.gb_registry.specs.References.{Names}

@@ -1,7 +1,7 @@
 //! Outputs, declared as expressions.
 ghost use Rattle.std.specs.Prelude.{◌≡◌, ◌<◌, length, All, OnOk};
 ghost use Rattle.gb_declare.specs.Borrowed.{outputs_in};
-ghost use Rattle.gb_nodes.specs.Statements.{IsRun};
+ghost use Rattle.gb_declare.specs.Statements.{IsRun};
 ghost use Rattle.gb_provider.specs.Rules.{numbers_of};
 ghost use Rattle.gb_project.specs.Stage.{with_output, with_outputs};
 

@@ -1,10 +1,10 @@
 //! The tasks of scripts, declared one after another.
 ghost use Rattle.std.specs.Prelude.{◌≡◌, [], ◌∷◌, length, drop, IfOk, OnOk};
 ghost use Rattle.std.specs.List.{AllByRecursion, flat_map};
-ghost use Rattle.gb_nodes.specs.Scripts.{laid_site};
-ghost use Rattle.gb_nodes.specs.Site.{AreThere, site_of};
-ghost use Rattle.gb_nodes.specs.InTable.{scripts_faults, scripts_made, sites_made};
-ghost use Rattle.gb_nodes.specs.Statements.{IsRun};
+ghost use Rattle.gb_declare.specs.Scripts.{laid_site};
+ghost use Rattle.gb_declare.specs.Site.{AreThere, site_of};
+ghost use Rattle.gb_declare.specs.NodesInTable.{scripts_faults, scripts_made, sites_made};
+ghost use Rattle.gb_declare.specs.Statements.{IsRun};
 ghost use Rattle.gb_registry.specs.Faults.{ReportsFirst};
 ghost use Rattle.gb_registry.specs.SoFar.{scripts_in};
 ghost use Rattle.gb_registry.specs.Tables.{tables_of};
@@ -24,8 +24,8 @@ use crate::tasks::declare_task;
 use gb_action::actions::Actions;
 use gb_core::path::TaskPath;
 use gb_core::text::Text;
-use gb_nodes::position::Site;
-use gb_nodes::scripts::{Laid, add_script};
+use gb_declare::position::Site;
+use gb_declare::scripts::{Laid, add_script};
 use gb_provider::providers::Providers;
 use gb_provider::transforms::Transforms;
 use gb_registry::checking::Scripted;

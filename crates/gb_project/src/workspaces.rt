@@ -3,12 +3,12 @@ ghost use Rattle.std.specs.Prelude.{◌≡◌, [], IfOk, Some, bytes_eq, length,
 ghost use Rattle.gb_declare.specs.Realised.{evaluated, first_or, realised};
 ghost use Rattle.gb_declare.specs.Views.{joined_of};
 ghost use Rattle.gb_declare.specs.Whole.{spots, trees_of, whole};
-ghost use Rattle.gb_evaluate.specs.Over.{IsFault, Reports, known_names};
-ghost use Rattle.gb_evaluate.specs.Parts.{HavePatterns};
-ghost use Rattle.gb_evaluate.specs.Evaluated.{IsBuiltIn};
-ghost use Rattle.gb_evaluate.specs.Rows.{AreWithin, ReportsOf};
-ghost use Rattle.gb_nodes.specs.InTable.{scripts_faults, scripts_made, sites_made};
-ghost use Rattle.gb_nodes.specs.Statements.{IsRun};
+ghost use Rattle.gb_project.specs.Over.{IsFault, Reports, known_names};
+ghost use Rattle.gb_project.specs.Parts.{HavePatterns};
+ghost use Rattle.gb_project.specs.Evaluated.{IsBuiltIn};
+ghost use Rattle.gb_project.specs.Rows.{AreWithin, ReportsOf};
+ghost use Rattle.gb_declare.specs.NodesInTable.{scripts_faults, scripts_made, sites_made};
+ghost use Rattle.gb_declare.specs.Statements.{IsRun};
 ghost use Rattle.gb_registry.specs.SoFar.{scripts_in};
 ghost use Rattle.gb_registry.specs.Projects.{root_path};
 ghost use Rattle.gb_registry.specs.References.{lookup_faults};
@@ -18,16 +18,16 @@ ghost use Rattle.gb_project.specs.Steps.{laid_sites};
 ghost use Rattle.gb_project.specs.Views.{stage_of};
 ghost use Rattle.gb_project.specs.Workspace.{IsKeptIn};
 
+use crate::context::Context;
 use crate::declared_task::{Declared, DeclaredTask};
+use crate::evaluating::evaluated;
 use crate::scripts::{declare_scripts, lay_scripts};
 use crate::tasks::want_of_memory;
 use gb_action::actions::Actions;
 use gb_core::path::TaskPath;
 use gb_core::text::Text;
-use gb_evaluate::context::Context;
-use gb_evaluate::evaluating::evaluated;
-use gb_nodes::given::by_name;
-use gb_nodes::scripts::Laid;
+use gb_declare::given::by_name;
+use gb_declare::scripts::Laid;
 use gb_plan::task::TaskDeclaration;
 use gb_provider::providers::Providers;
 use gb_provider::transforms::Transforms;
@@ -244,7 +244,7 @@ impl<'a, A: Actions, T: Transforms> Workspace<'a, A, T> {
     /// of the script, then of its values. A path under which no task is registered is 50 or 52.
     /// Values that were read are cached; the workspace as contracts see it is unchanged.
     pub fn realise(&mut self, alloc: Global, path: &TaskPath) -> Result<TaskDeclaration, Fault>
-        // The result is what the scripts say of the task at this path, or memory ran out.
+        // The result is what the scripts declare of the task at this path, or memory ran out.
         ensures reported { let tables = tables_of T.meanings A.meanings self.old.tables in
             Reports tables self.old.source (realised tables self.old.source path.now) result }
         ensures kept { self.new ≡ self.old }

@@ -112,7 +112,7 @@ module _ {M F Z : Type 0} where
   abbrev pub output_place : List (Expression M F Z) → Chosen → Option ℕ
   output_place nodes chosen = position (is_output chosen) nodes
 
--- `flatMap`: the chosen output; absent if none is chosen. `output` tells where an output stands.
+-- `flatMap`: the chosen output; absent if none is chosen. `output` gives the key of an output.
 abbrev pub chosen_rule : {K : Type 0} → (Chosen → Option K) → List ℕ → Result (Option Chosen) Refusal
     → Rule K Outcome
 chosen_rule output function (Ok (Some chosen)) = output_rule chosen (output chosen)
@@ -143,7 +143,7 @@ module _ {M F Z S K : Type 0} (meanings : Meanings M F Z S) where
       Answers (zipped call.name (meaning_of meanings.zip call.function a b call.arguments))))))
 
 module _ {M F Z S K : Type 0} (meanings : Meanings M F Z S) (output : Chosen → Option K) where
-  -- How an expression is evaluated; `output` tells where an output stands.
+  -- How an expression is evaluated; `output` gives the key of an output.
   abbrev pub value_rule : Form M F Z K → Rule K Outcome
   value_rule (forms.Constant value) = Answers (constant value)
   value_rule (forms.OfProperty project name setting convention) = property_rule setting convention

@@ -1,5 +1,5 @@
 -- Records of tasks that are not registered.
-use Rattle.std.proofs.Common.{ℕ, suc, ◌≡◌, ◌<◌, ◌+◌, Bool, false, List, [], ◌∷◌, Option, None, Some, Result, Ok, Err, length, get_or, drop, ap, sym, subst, ◌∙◌, arith}
+use Rattle.std.proofs.Common.{ℕ, suc, ◌≡◌, ◌<◌, ◌+◌, Bool, false, List, ◌∷◌, Option, None, Some, Result, Ok, Err, length, get_or, drop, ap, sym, subst, ◌∙◌, arith}
 use Rattle.std.specs.Prelude.{IfErr, is_some}
 use Rattle.std.specs.Result.{IsErrAnd}
 use Rattle.std.proofs.Math.Seq.{drop-cons}

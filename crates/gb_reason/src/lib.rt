@@ -5,6 +5,8 @@
 //! and none exactly if the task is up to date by `Decides` (`none`). Laws: `each_is_real`,
 //! `none_is_up_to_date`, and `changes_are_reasons` (if a task may run incrementally, the reasons
 //! are just the changes that its actions get).
+//!
+//! What was set aside: `docs/DECISIONS.md#executions-and-runs`.
 #![tactic(auto)]
 
 mod differing;

@@ -1,5 +1,5 @@
 -- What was answered on a part of the way was answered on all of it, and what is read of it as a record.
-use Rattle.std.specs.Prelude.{ℕ, ◌≡◌, List, [], ◌∷◌, Option, Some, None, Result, Ok, Err, IfOk}
+use Rattle.std.specs.Prelude.{◌≡◌, List, [], ◌∷◌, Option, Some, None, Result, Ok, Err, IfOk}
 use Rattle.std.proofs.Common.{◌++◌, ◌||◌, Bool, true, refl, ap, subst, sym, ◌∙◌}
 use Rattle.std.specs.List.{AllZip, list_any}
 use Rattle.std.proofs.lemmas.List.Folds.{list_any-append}

@@ -26,7 +26,7 @@ use Rattle.gb_history.proofs.Lists.{all_true}
 use Rattle.gb_meaning.specs.Events.{max_record}
 use Rattle.gb_meaning.specs.Headline.{TornWritesAreDetected}
 use Rattle.gb_meaning.specs.Memory.{Entry, Memory, remember, forget}
-use Rattle.gb_meaning.specs.TrueRecord.{SaysNoRecord}
+use Rattle.gb_meaning.specs.TrueRecord.{IsTextOfNoRecord}
 use Rattle.gb_meaning.proofs.Lemmas.Files.{same_place}
 use Rattle.gb_records.specs.Faults.{none_for, removed_by, unwritten_for}
 use Rattle.gb_records.specs.Said.{IsText, IsSaidOf, IsReadAt}
@@ -75,7 +75,7 @@ pub gone : (path : Path) (old new : Contents) (memory : Memory) → IsTrue (is_t
 gone path old new memory good out existed =
     subst (λ (c : Contents). HoldsRecords c.files (forget memory path)) (sym out)
     (forgotten old.files (without old.files (record_place path)) memory path good existed (elsewhere_left old.files path None)
-    (subst (SaysNoRecord IsText path) (sym (at_left old.files (record_place path) None)) tt))
+    (subst (IsTextOfNoRecord IsText path) (sym (at_left old.files (record_place path) None)) tt))
 
 same_exists : (old new : Contents) (memory : Memory) → new ≡ old → HoldsRecords old.files memory → HoldsRecords new.files memory
 same_exists old new memory same existed = subst (λ (c : Contents). HoldsRecords c.files memory) (sym same) existed
@@ -97,7 +97,7 @@ exists_out may_leave path old new folders.BadFileName memory good sound same mis
 
 -- ---- a write
 
--- the text that is written for a record says it
+-- the text that is written for a record is one of it
 pub text_said : (path : Path) (run : Record) → IsUtf8 path → IsWellFormed run → length (record_text path run) ≤ max_record
     → IsText path run (record_text path run)
 text_said path run utf8 held short = record {
@@ -144,13 +144,13 @@ unplaced (file ∷ files) place all bad =
 
 -- if there is nothing, there is no record
 pub none_read : (files : Files) (path : Path) → file_at files (record_place path) ≡ None → IsReadAt files path None
-none_read files path none = subst (SaysNoRecord IsText path) (sym none) tt
+none_read files path none = subst (IsTextOfNoRecord IsText path) (sym none) tt
 
 -- a file that is too large is the text of no record
 large_read : (files : Files) (path : Path) → IsSomeAnd (file_at files (record_place path)) (λ bytes. max_record < length bytes) → IsReadAt files path None
 large_read files path large = by (file_at files (record_place path)) large
   where
-    by : (o : Option Bytes) → IsSomeAnd o (λ bytes. max_record < length bytes) → SaysNoRecord IsText path o
+    by : (o : Option Bytes) → IsSomeAnd o (λ bytes. max_record < length bytes) → IsTextOfNoRecord IsText path o
     by None h = tt
     by (Some bytes) h = λ said text. absurd (omega (arith, text.short, h))
 

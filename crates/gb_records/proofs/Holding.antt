@@ -16,7 +16,7 @@ use Rattle.gb_history.specs.Places.{record_place}
 use Rattle.gb_history.proofs.Places.{separate}
 use Rattle.gb_meaning.specs.Headline.{TornWritesAreDetected}
 use Rattle.gb_meaning.specs.Memory.{Entry, Memory, recalled, remember, forget}
-use Rattle.gb_meaning.specs.TrueRecord.{Stores, SaysNoRecord, record_of}
+use Rattle.gb_meaning.specs.TrueRecord.{Stores, IsTextOfNoRecord, record_of}
 use Rattle.gb_meaning.proofs.Lemmas.Files.{total, tied_same, of_T, T_of}
 use Rattle.gb_meaning.proofs.Lemmas.Truth.{filter_each}
 use Rattle.gb_records.specs.Said.{IsText}
@@ -83,7 +83,7 @@ changed old new memory after path good existed elsewhere others stored sorted ta
         rw (elsewhere (record_place other) (other_place path other good fine e), others other e) (existed.records other fine)
 
 pub forgotten : (old new : Files) (memory : Memory) (path : Path) → IsTrue (is_task_path path) → HoldsRecords old memory → SameElsewhere path old new
-    → SaysNoRecord IsText path (file_at new (record_place path)) → HoldsRecords new (forget memory path)
+    → IsTextOfNoRecord IsText path (file_at new (record_place path)) → HoldsRecords new (forget memory path)
 forgotten old new memory path good existed elsewhere none =
     changed old new memory (forget memory path) path good existed elsewhere
     (λ other e. recalled-forget memory path other ∙ ap (λ b. cond (not b) (recalled memory other) None) e)
@@ -148,13 +148,13 @@ torn_out may_leave files memory path left good observed torn existed =
     elim (observed path (file_at files (record_place path)) None left good tt torn) [
       | inl as_old ↦ inl (kept files _ memory (as_it_was files (record_place path) left as_old) existed)
       | inr rest ↦ elim rest [
-        | inl gone ↦ inr (no_record (subst (SaysNoRecord IsText path) (sym gone) tt))
+        | inl gone ↦ inr (no_record (subst (IsTextOfNoRecord IsText path) (sym gone) tt))
         | inr none ↦ inr (no_record none)
       ]
     ]
   where
-    no_record : SaysNoRecord IsText path left → HoldsRecords (with_left files (record_place path) left) (forget memory path)
-    no_record none = forgotten files _ memory path good existed (elsewhere_left files path left) (subst (SaysNoRecord IsText path) (sym (at_left files (record_place path) left)) none)
+    no_record : IsTextOfNoRecord IsText path left → HoldsRecords (with_left files (record_place path) left) (forget memory path)
+    no_record none = forgotten files _ memory path good existed (elsewhere_left files path left) (subst (IsTextOfNoRecord IsText path) (sym (at_left files (record_place path) left)) none)
 
 -- If a stopped write is recognized for what it is, the old record is there, or the new one, or none.
 pub torn_in : (may_leave : Tearing) (files : Files) (memory : Memory) (path : Path) (entry : Entry) (bytes : Bytes) (left : Option Bytes)
@@ -167,6 +167,6 @@ torn_in may_leave files memory path entry bytes left good observed said torn exi
       | inl as_old ↦ inl (kept files _ memory (as_it_was files (record_place path) left as_old) existed)
       | inr rest ↦ elim rest [
         | inl whole ↦ inr (inl (remembered files _ memory path entry bytes good existed (elsewhere_left files path left) (at_left files (record_place path) left ∙ whole) said))
-        | inr none ↦ inr (inr (forgotten files _ memory path good existed (elsewhere_left files path left) (subst (SaysNoRecord IsText path) (sym (at_left files (record_place path) left)) none)))
+        | inr none ↦ inr (inr (forgotten files _ memory path good existed (elsewhere_left files path left) (subst (IsTextOfNoRecord IsText path) (sym (at_left files (record_place path) left)) none)))
       ]
     ]

@@ -1,5 +1,5 @@
 -- What calls answered of a record, over any folder.
-use Rattle.std.specs.Prelude.{ℕ, Option, Some, None, Ok, ⊤}
+use Rattle.std.specs.Prelude.{Option, Some, None, Ok, ⊤}
 use Rattle.gb_folder.specs.Answers.{IsOnWay}
 use Rattle.gb_folder.specs.Calls.{Reads}
 use Rattle.gb_folder.specs.Files.{Bytes}

@@ -19,12 +19,12 @@ use Rattle.gb_records.specs.Holding.{HoldsRecords}
 -- How records read, where each is, and which text is written for one, as builds require.
 pub record AreRecords (says : RecordTexts) (exists_at : Path → Place)
     (written : Path → Record → Bytes) : Type 0 where
-  -- a text says one record of a task at most
+  -- a text is that of one record of a task at most
   pub one : (path : Path) (one other : Record) (bytes : Bytes) → says path one bytes → says path other bytes
       → one ≡ other
   -- none is above 64 MiB
   pub short : (path : Path) (run : Record) (bytes : Bytes) → says path run bytes → length bytes ≤ max_record
-  -- the text that is written for a record says it
+  -- the text that is written for a record is one of it
   pub back : (path : Path) (run : Record) → IsTrue (is_task_path path) → IsWellFormed run
       → length (written path run) ≤ max_record → says path run (written path run)
   -- records are where the tool keeps its own

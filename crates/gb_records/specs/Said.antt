@@ -1,4 +1,4 @@
--- What the text of a record says, in the terms of builds.
+-- Which record a text is, in the terms of builds.
 use Rattle.std.specs.Prelude.{◌≡◌, ◌≤◌, length, Option, Some, None}
 use Rattle.std.specs.Str.{IsUtf8}
 use Rattle.sha2.specs.Sha256.{sha256}
@@ -9,7 +9,7 @@ use Rattle.gb_history.specs.Text.{IsTextOf}
 use Rattle.gb_history.specs.Places.{record_place}
 use Rattle.gb_meaning.specs.Events.{max_record}
 use Rattle.gb_meaning.specs.Memory.{Entry}
-use Rattle.gb_meaning.specs.TrueRecord.{SaysNoRecord, record_of}
+use Rattle.gb_meaning.specs.TrueRecord.{IsTextOfNoRecord, record_of}
 
 -- The bytes are the text of this record of the task, and at most 64 MiB.
 pub record IsText (path : Path) (run : Record) (bytes : Bytes) : Type 0 where
@@ -20,7 +20,7 @@ pub record IsText (path : Path) (run : Record) (bytes : Bytes) : Type 0 where
 
 -- what is read of a task with this content: the record whose text it is, or none if it is the text of none
 abbrev pub IsReadAs : Path → Option Bytes → Option Record → Type 0
-IsReadAs path left None = SaysNoRecord IsText path left
+IsReadAs path left None = IsTextOfNoRecord IsText path left
 IsReadAs path left (Some run) = (bytes : Bytes) × (left ≡ Some bytes) × IsText path run bytes
 
 -- what is read of a task in these files

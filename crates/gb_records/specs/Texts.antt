@@ -1,5 +1,5 @@
 -- What was read at the place of a task's record, before it is read as a record.
-use Rattle.std.specs.Prelude.{ℕ, ◌≡◌, ◌≤◌, [], Option, Some, None, Ok, ⊤, length}
+use Rattle.std.specs.Prelude.{◌≡◌, ◌≤◌, [], Option, Some, None, Ok, ⊤, length}
 use Rattle.gb_folder.specs.Answers.{IsOnWay}
 use Rattle.gb_folder.specs.Calls.{Reads}
 use Rattle.gb_folder.specs.Files.{Bytes, Files, file_at}

@@ -12,7 +12,7 @@ use gb_core::text::Text;
 use std::alloc::{AllocError, Global};
 use std::fmt::Write;
 
-/// The printed text of a report, in UTF-8; each line ends in a line feed.
+/// The whole text that a build with this report prints, in UTF-8; each line ends in a line feed.
 pub fn render(alloc: Global, report: &Report) -> Result<Vec<u8>, AllocError>
     ensures { IfOk result (λ bytes. bytes.items ≡ report_text report.now) }
 {

@@ -27,7 +27,7 @@ use Rattle.gb_run.specs.Placing.{count_faults}
 use Rattle.gb_run.proofs.Agreed.{some_same}
 use Rattle.gb_run.proofs.Placed.{all_after, all_prefix, free_files_of, none_before}
 use Rattle.gb_run.proofs.Writer.{heads, tails}
-use Rattle.gb_run.specs.Steps.{LeadTo, Step, after_steps, in_turn}
+use Rattle.gb_run.specs.Steps.{LeadTo, Step, after_steps, in_step_order}
 use Rattle.gb_run.specs.Stepping.{HasRoom, IsFree}
 use Rattle.gb_run.proofs.Following.{no_some}
 use Rattle.gb_run.proofs.Leading.{all_found, sorted_after}
@@ -190,9 +190,9 @@ hits_none files q p b free e =
 -- ---- the steps
 
 module _ (task : Task) (files : Files) (folder : IsFolder files) (written : List Written) (steps : List Step) (sorted : is_sorted byte_order steps ≡ true)
-    (at_outputs : AllByRecursion (λ (s : Step). is_output_of task s.0 ≡ true) (in_turn steps))
+    (at_outputs : AllByRecursion (λ (s : Step). is_output_of task s.0 ≡ true) (in_step_order steps))
     (none : step_faults task.outputs [] (placed task.outputs written) ≡ [])
-    (leads : LeadTo files (put_over (rest_of task files) (put_over [] (placed task.outputs written))) (in_turn steps)) where
+    (leads : LeadTo files (put_over (rest_of task files) (put_over [] (placed task.outputs written))) (in_step_order steps)) where
   abbrev made : Files
   made = put_over [] (placed task.outputs written)
 
@@ -251,11 +251,11 @@ module _ (task : Task) (files : Files) (folder : IsFolder files) (written : List
 
   -- ---- all steps had room
 
-  pub step_free : HasRoom files (in_turn steps) → step_by task.outputs rest [] (Ok written) ≡ Ok (put_over [] (placed task.outputs written))
+  pub step_free : HasRoom files (in_step_order steps) → step_by task.outputs rest [] (Ok written) ≡ Ok (put_over [] (placed task.outputs written))
   step_free room = free_step task.outputs rest [] written none (none_of (λ (f : Place × Bytes). is_blocked rest f.0) made (all_found (λ (f : Place × Bytes). is_blocked rest f.0 ≡ false) made made_sorted each))
     where
       all : AllByRecursion (λ (s : Step). is_some s.1 ≡ true → is_blocked rest s.0 ≡ false) (kept comes steps)
-      all = all_after (λ (s : Step). is_some s.1 ≡ true → is_blocked rest s.0 ≡ false) (kept goes steps) (kept comes steps) (room_rest (in_turn steps) files at_outputs refl room)
+      all = all_after (λ (s : Step). is_some s.1 ≡ true → is_blocked rest s.0 ≡ false) (kept goes steps) (kept comes steps) (room_rest (in_step_order steps) files at_outputs refl room)
 
       each : (q : Place) (b : Bytes) → file_at made q ≡ Some b → is_blocked rest q ≡ false
       each q b e = by (came q b e)
@@ -266,7 +266,7 @@ module _ (task : Task) (files : Files) (folder : IsFolder files) (written : List
 
   -- ---- a step was shut out
 
-  module _ (prefix : List Step) (step : Step) (following : List Step) (all : in_turn steps ≡ prefix ++ step ∷ following) (room : HasRoom files prefix) (some : is_some step.1 ≡ true)
+  module _ (prefix : List Step) (step : Step) (following : List Step) (all : in_step_order steps ≡ prefix ++ step ∷ following) (room : HasRoom files prefix) (some : is_some step.1 ≡ true)
       (blocked : is_blocked (after_steps files prefix) step.0 ≡ true) where
     going_none : AllByRecursion (λ (x : Step). is_some x.1 ≡ false) (kept goes steps)
     going_none = picked_all (λ (s : Step). goes s.0 s.1) (λ (x : Step). is_some x.1 ≡ false) steps (λ s e. lone (is_some s.1) (right_of (is_place s.0) (not (is_some s.1)) e))

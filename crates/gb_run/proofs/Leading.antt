@@ -29,7 +29,7 @@ use Rattle.gb_meaning.proofs.Lemmas.Files.{at-put_over, at-where, left_of, or_el
 use Rattle.gb_run.specs.AskingChanges.{IsFitting}
 use Rattle.gb_run.specs.ChangeLaws.{IsReplied, RepliesAreMade, RepliesLeadOn}
 use Rattle.gb_run.specs.Named.{files_left, held_after, named, put, existing, steps_of}
-use Rattle.gb_run.specs.Steps.{LeadTo, Step, after_steps, in_turn, put_steps}
+use Rattle.gb_run.specs.Steps.{LeadTo, Step, after_steps, in_step_order, put_steps}
 use Rattle.gb_run.proofs.Agreed.{some_same}
 use Rattle.gb_run.proofs.AtPaths.{Elsewhere, Here, IsElsewhere, RemovesTarget, Where, WritesTarget, at_named, at_placed, named_elsewhere, placed_elsewhere, whether}
 use Rattle.gb_run.proofs.Following.{at_target, follows, no_some, or_none, observed_target, existed_elsewhere, unobserved, unwritten}
@@ -57,7 +57,7 @@ all_found P (s ∷ steps) h each = (
         by true e = no_some (find byte_order q steps) v (none_again q s steps h e) found
         by false e = found
 
-pub all_in_execution : (P : Step → Type 0) (steps : List Step) → AllByRecursion P steps → AllByRecursion P (in_turn steps)
+pub all_in_execution : (P : Step → Type 0) (steps : List Step) → AllByRecursion P steps → AllByRecursion P (in_step_order steps)
 all_in_execution P steps all =
     all_append P _ _ (all_filter P (λ (s : Step). is_place s.0 && not (is_some s.1)) steps all) (all_filter P (λ (s : Step). is_place s.0 && is_some s.1) steps all)
 
@@ -366,7 +366,7 @@ module _ (kinds : Kinds) (task : Task) (trees : Trees) (changes : List Changes) 
     good_made : are_placed made ≡ true
     good_made = placed_files made made (none_before (flat_map (file_faults made) made) _ none)
 
-    after_at : (q : Place) → file_at (after_steps files (in_turn steps)) q ≡ file_at goal_files q
+    after_at : (q : Place) → file_at (after_steps files (in_step_order steps)) q ≡ file_at goal_files q
     after_at q = at_in_execution files steps q steps_sorted ∙ by (whether task.outputs output found.1 q)
       where
         here : (path : List ℕ) (b : Bool) → is_place (beneath root path) ≡ b
@@ -395,13 +395,13 @@ module _ (kinds : Kinds) (task : Task) (trees : Trees) (changes : List Changes) 
             either true = refl
             either false = refl
 
-    pub leads : LeadTo files (put_over (rest_of task files) (put_over [] (placed task.outputs written))) (in_turn (steps_of task.outputs reply.removes reply.writes))
+    pub leads : LeadTo files (put_over (rest_of task files) (put_over [] (placed task.outputs written))) (in_step_order (steps_of task.outputs reply.removes reply.writes))
     leads = record {
       needed = all_in_execution (λ (s : Step). file_at files s.0 ≢ file_at goal_files s.0) steps
           (all_found (λ (s : Step). file_at files s.0 ≢ file_at goal_files s.0) steps steps_sorted (λ q v e. needs q v (step_is q v e)));
       meant = all_in_execution (λ (s : Step). (s.1 ≡ None) ⊎ (s.1 ≡ file_at goal_files s.0)) steps
           (all_found (λ (s : Step). (s.1 ≡ None) ⊎ (s.1 ≡ file_at goal_files s.0)) steps steps_sorted (λ q v e. means q v (step_is q v e)));
-      reached = same_files (after_steps files (in_turn steps)) goal_files (sorted_after files (in_turn steps) r.in_order)
+      reached = same_files (after_steps files (in_step_order steps)) goal_files (sorted_after files (in_step_order steps) r.in_order)
           (sorted-put_over (rest_of task files) made (sorted-where (λ place. not (is_output_of task place)) files r.in_order)) after_at;
     }
 

@@ -40,7 +40,7 @@ pub mod Executing
 pub mod SteppedOn
 pub mod Small
 pub mod Blocked
-pub mod Turning
+pub mod WritingAction
 pub mod Fitting
 pub mod Going
 pub mod Same

@@ -14,7 +14,7 @@ use Rattle.gb_core.specs.Place.{is_place}
 use Rattle.gb_folder.specs.Files.{Place, Bytes, Files, file_at, with_left}
 use Rattle.gb_folder.proofs.Changes.{file_at-with_file, file_at-without}
 use Rattle.gb_meaning.proofs.Lemmas.Files.{T_of, left_of, of_T, right_of, same_place}
-use Rattle.gb_run.specs.Steps.{Step, after_steps, in_turn, put_steps}
+use Rattle.gb_run.specs.Steps.{Step, after_steps, in_step_order, put_steps}
 
 -- ---- tests
 
@@ -112,7 +112,7 @@ after_append old (x ∷ xs) ys = after_append (with_left old x.0 x.1) xs ys
 
 -- what steps in execution order leave
 pub at_in_execution : (old : Files) (steps : List Step) (q : Place) → is_sorted byte_order steps ≡ true
-    → file_at (after_steps old (in_turn steps)) q ≡ cond (is_place q) (unwrap_or (find byte_order q steps) (file_at old q)) (file_at old q)
+    → file_at (after_steps old (in_step_order steps)) q ≡ cond (is_place q) (unwrap_or (find byte_order q steps) (file_at old q)) (file_at old q)
 at_in_execution old steps q h =
     ap (λ (fs : Files). file_at fs q) (after_append old (kept goes steps) (kept comes steps))
     ∙ at_after (after_steps old (kept goes steps)) (kept comes steps) q (sorted_kept comes steps h)

@@ -22,7 +22,7 @@ use Rattle.gb_run.specs.RunInput.{RunInput, run_input}
 use Rattle.gb_run.specs.Doing.{Does, Ending}
 use Rattle.gb_run.specs.Failing.{ByChanges, Fails}
 use Rattle.gb_run.specs.Stepping.{HasRoom}
-use Rattle.gb_run.specs.Steps.{Step, folder_after, in_turn}
+use Rattle.gb_run.specs.Steps.{Step, folder_after, in_step_order}
 use Rattle.gb_run.specs.Named.{steps_of}
 use Rattle.gb_run.specs.Execution.{IsItsExecution, Stops}
 use Rattle.gb_run.specs.Work.{DoesParts, OrPrints, Part, Work}
@@ -33,7 +33,7 @@ use Rattle.gb_run.proofs.Follows.{cut_short, leaves}
 use Rattle.gb_run.proofs.Further.{begins_so, ends_so, fails_further, goes_further}
 use Rattle.gb_run.proofs.Going.{IsGoing, exists_old}
 use Rattle.gb_run.proofs.Small.{small_steps}
-use Rattle.gb_run.proofs.Turning.{ends, stops_asked, stops_placing, stops_printing, stops_taking}
+use Rattle.gb_run.proofs.WritingAction.{ends, stops_asked, stops_placing, stops_printing, stops_taking}
 use Rattle.gb_run.proofs.Writer.{fits_writer}
 
 never : {X : Type 0} (kinds : Kinds) (action : Action) → kinds.writes (kind_of action) ≡ true → kinds.writes (kind_of action) ≡ false → X
@@ -100,12 +100,12 @@ module _ (kinds : Kinds) (task : Task) (trees : Trees) (changes : List Changes) 
       cut fault (inl reader, prints) does risen = no_stop fault reader.steps does
       cut fault (inr writer, prints) does risen = stops fault between.files (λ quiet. never kinds action writer.writes quiet) (λ turn.
           stops_taking kinds task action trees changes observed cur.files (folder_now writer.writes turn) (good_now writer.writes turn) turn writer.reply writer.answers writer.free may_leave before fault after cur between refl risen
-          (cut_short may_leave (in_turn (steps_of task.outputs writer.reply.removes writer.reply.writes)) calls cur between fault (small_steps task.outputs observed writer.reply.removes writer.reply.writes writer.free)
+          (cut_short may_leave (in_step_order (steps_of task.outputs writer.reply.removes writer.reply.writes)) calls cur between fault (small_steps task.outputs observed writer.reply.removes writer.reply.writes writer.free)
           (subst (λ (ss : List Step). Does ss calls (Err fault)) writer.steps does) answers))
 
       left_so : (writer : IsWriterPart run action part) → Does part.steps calls (Ok tt)
-          → (between ≡ folder_after cur (in_turn (steps_of task.outputs writer.reply.removes writer.reply.writes))) × HasRoom cur.files (in_turn (steps_of task.outputs writer.reply.removes writer.reply.writes))
-      left_so writer does = leaves may_leave (in_turn (steps_of task.outputs writer.reply.removes writer.reply.writes)) calls cur between (subst (λ (ss : List Step). Does ss calls (Ok tt)) writer.steps does) answers
+          → (between ≡ folder_after cur (in_step_order (steps_of task.outputs writer.reply.removes writer.reply.writes))) × HasRoom cur.files (in_step_order (steps_of task.outputs writer.reply.removes writer.reply.writes))
+      left_so writer does = leaves may_leave (in_step_order (steps_of task.outputs writer.reply.removes writer.reply.writes)) calls cur between (subst (λ (ss : List Step). Does ss calls (Ok tt)) writer.steps does) answers
 
       -- its part was done, and memory ran out for its lines
       mute : IsPart run action part → Does part.steps calls (Ok tt) → FailsNow faults.OutOfMemory lines between.files

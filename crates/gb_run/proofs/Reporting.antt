@@ -32,7 +32,7 @@ use Rattle.gb_run.proofs.Keeping.{made_more, put_freely}
 use Rattle.gb_run.specs.AskingChanges.{GoesOn, IsFitting, request_of, writers}
 use Rattle.gb_run.specs.ChangeLaws.{IsReplied}
 use Rattle.gb_run.specs.Named.{held_after, steps_of}
-use Rattle.gb_run.specs.Steps.{LeadTo, after_steps, in_turn}
+use Rattle.gb_run.specs.Steps.{LeadTo, after_steps, in_step_order}
 use Rattle.gb_run.specs.Execution.{IsItsExecution, Makes}
 use Rattle.gb_run.proofs.Further.{some_writes, the_one}
 use Rattle.gb_run.proofs.Going.{none_full, two_writers}
@@ -40,7 +40,7 @@ use Rattle.gb_run.proofs.Leading.{held_is_made, leads}
 use Rattle.gb_run.proofs.Owned.{no_rest, owned_again, owned_observed}
 use Rattle.gb_run.proofs.Placed.{none_after}
 use Rattle.gb_run.proofs.Room.{or_none}
-use Rattle.gb_run.proofs.Turning.{none_mapped, ok_value}
+use Rattle.gb_run.proofs.WritingAction.{none_mapped, ok_value}
 use Rattle.gb_run.proofs.Writer.{writer_of}
 
 -- ---- the action that writes
@@ -78,7 +78,7 @@ module _ (kinds : Kinds) (task : Task) (action : Action) (trees : Trees) (change
 
   -- if these files have no fault, the digests once its steps are followed are those of its files
   pub makes_so : (digests : Files) → faults_beside task.outputs [] (held_after task.outputs observed reply.removes reply.writes) ≡ []
-      → digests ≡ digests_of (after_steps (output_files task files) (in_turn (steps_of task.outputs reply.removes reply.writes))) → Makes kinds task action trees digests
+      → digests ≡ digests_of (after_steps (output_files task files) (in_step_order (steps_of task.outputs reply.removes reply.writes))) → Makes kinds task action trees digests
   makes_so digests none is = record {
     more = put_over [] (placed task.outputs made.0);
     put = put_freely task.outputs [] (made_by kinds task action trees) made.0 made.1 none_made;
@@ -92,7 +92,7 @@ module _ (kinds : Kinds) (task : Task) (action : Action) (trees : Trees) (change
           sym (ap (faults_beside task.outputs []) (held_is_made kinds task trees changes observed (output_files task files) reply made.0 replied)
           ∙ beside_held task.outputs [] (placed task.outputs made.0) refl) ∙ none
 
-      lead : LeadTo (output_files task files) (put_over (rest_of task (output_files task files)) (put_over [] (placed task.outputs made.0))) (in_turn (steps_of task.outputs reply.removes reply.writes))
+      lead : LeadTo (output_files task files) (put_over (rest_of task (output_files task files)) (put_over [] (placed task.outputs made.0))) (in_step_order (steps_of task.outputs reply.removes reply.writes))
       lead = leads kinds task trees changes observed (output_files task files) reply made.0 replied none_made
 
 -- ---- all actions

@@ -22,7 +22,7 @@ use Rattle.gb_run.proofs.AtOutputs.{is_at}
 use Rattle.gb_run.proofs.Placed.{small_taken}
 use Rattle.gb_run.specs.Named.{held_after, named, put, removed, removed_in, existing, steps_of}
 use Rattle.gb_run.specs.Stepping.{IsSmall}
-use Rattle.gb_run.specs.Steps.{Step, in_turn, put_steps}
+use Rattle.gb_run.specs.Steps.{Step, in_step_order, put_steps}
 use Rattle.gb_run.proofs.Following.{no_some, under_named}
 use Rattle.gb_run.proofs.Leading.{all_found, all_in_execution, at_files}
 use Rattle.gb_run.proofs.Looks.{at_put, sorted_steps}
@@ -54,7 +54,7 @@ small_at (f ∷ files) all q b e = by (small_at files all.1 q b) (eq_by_cmp byte
 
 -- what is put is held then, and so it is not too large
 pub small_steps : (outputs : List Output) (observed : List OutputFiles) (removes : List OutputPath) (writes : List Written)
-    → faults_beside outputs [] (held_after outputs observed removes writes) ≡ [] → AllByRecursion IsSmall (in_turn (steps_of outputs removes writes))
+    → faults_beside outputs [] (held_after outputs observed removes writes) ≡ [] → AllByRecursion IsSmall (in_step_order (steps_of outputs removes writes))
 small_steps outputs observed removes writes none =
     all_in_execution IsSmall (steps_of outputs removes writes)
     (all_found IsSmall (steps_of outputs removes writes) (sorted_steps [] (named outputs removes writes) refl) one)
@@ -110,7 +110,7 @@ named_at P held (s ∷ xs) q v start any all e =
     by w false tied is = start w is
 
 -- the steps of a reply are at outputs
-pub steps_at_outputs : (outputs : List Output) (removes : List OutputPath) (writes : List Written) → AllByRecursion (λ (s : Step). is_at outputs s.0 ≡ true) (in_turn (steps_of outputs removes writes))
+pub steps_at_outputs : (outputs : List Output) (removes : List OutputPath) (writes : List Written) → AllByRecursion (λ (s : Step). is_at outputs s.0 ≡ true) (in_step_order (steps_of outputs removes writes))
 steps_at_outputs outputs removes writes =
     all_in_execution (λ (s : Step). is_at outputs s.0 ≡ true) (steps_of outputs removes writes)
     (all_found (λ (s : Step). is_at outputs s.0 ≡ true) (steps_of outputs removes writes) (sorted_steps [] (named outputs removes writes) refl)

@@ -16,7 +16,7 @@ use Rattle.gb_meaning.specs.Kinds.{Kinds, kind_of}
 use Rattle.gb_meaning.specs.Made.{placed, put_over, rest_of, step_faults}
 use Rattle.gb_run.specs.AskingChanges.{GoesOn, IsFitting, request_of, writers}
 use Rattle.gb_run.specs.Named.{held_after, steps_of}
-use Rattle.gb_run.specs.Steps.{LeadTo, in_turn}
+use Rattle.gb_run.specs.Steps.{LeadTo, in_step_order}
 
 -- The reply of a task's writer to an incremental request, and the files that it makes of the trees as they
 -- are now.
@@ -50,4 +50,4 @@ RepliesLeadOn =
     → IsReplied kinds task trees changes outputs files reply written
     → step_faults task.outputs [] (placed task.outputs written) ≡ [] →
     LeadTo files (put_over (rest_of task files) (put_over [] (placed task.outputs written)))
-    (in_turn (steps_of task.outputs reply.removes reply.writes))
+    (in_step_order (steps_of task.outputs reply.removes reply.writes))

@@ -23,8 +23,8 @@ abbrev pub put_steps : List Step → List Step → List Step
 put_steps held steps = fold (λ m step. put byte_order step.0 step.1 m) held steps
 
 -- The order in which steps are done: removals before writes. A path that is no place has no file to remove.
-abbrev pub in_turn : List Step → List Step
-in_turn steps =
+abbrev pub in_step_order : List Step → List Step
+in_step_order steps =
     filter (λ step. is_place step.0 && not (is_some step.1)) steps
     ++ filter (λ step. is_place step.0 && is_some step.1) steps
 

@@ -19,7 +19,7 @@ use Rattle.gb_run.specs.AskingChanges.{IsFitting, request_of}
 use Rattle.gb_run.specs.Doing.{Ending}
 use Rattle.gb_run.specs.Named.{held_after, steps_of}
 use Rattle.gb_run.specs.Placing.{faults_beside}
-use Rattle.gb_run.specs.Steps.{in_turn}
+use Rattle.gb_run.specs.Steps.{in_step_order}
 use Rattle.gb_run.specs.Work.{DoesParts, Part, Work, or_fault}
 
 -- What such a run depends on: what kinds mean, the task with its trees and change lists, and its outputs as
@@ -50,7 +50,7 @@ pub record IsWriterPart (run : Increment) (action : Action) (part : Part) : Type
       (request_of run.task run.trees run.changes run.observed action.args) (Ok reply)
   pub free : faults_beside run.task.outputs [] (held_after run.task.outputs run.observed reply.removes
       reply.writes) ≡ []
-  pub steps : part.steps ≡ in_turn (steps_of run.task.outputs reply.removes reply.writes)
+  pub steps : part.steps ≡ in_step_order (steps_of run.task.outputs reply.removes reply.writes)
 
 abbrev pub IsPart : Increment → Action → Part → Type 0
 IsPart run action part =

@@ -4,12 +4,12 @@ ghost use Rattle.std.specs.Option.{option_copied};
 ghost use Rattle.gb_core.specs.Lists.{first_of};
 ghost use Rattle.gb_run.specs.Placing.{faults_beside};
 ghost use Rattle.gb_run.specs.Named.{held_after, steps_of};
-ghost use Rattle.gb_run.specs.Steps.{in_turn};
+ghost use Rattle.gb_run.specs.Steps.{in_step_order};
 ghost use Rattle.gb_run.specs.ChangeTexts.{shown_steps, steps_in};
 
 use crate::after_reply::check_held;
 use crate::reply::{put_existing, put_reply};
-use crate::step_order::in_turn;
+use crate::step_order::in_step_order;
 use gb_action::output::OutputFiles;
 use gb_action::reply::{OutputPath, Written};
 use gb_core::bytes::Bytes;
@@ -29,7 +29,7 @@ pub fn planned(
     writes: &[Written],
 ) -> Result<Vec<(Place, Option<Bytes>)>, Fault>
     ensures steps { IfOk result (λ ordered.
-        ordered.items ≡ in_turn (steps_of outputs.now removes.now writes.now)) }
+        ordered.items ≡ in_step_order (steps_of outputs.now removes.now writes.now)) }
     ensures ok { OnOk result
         (faults_beside outputs.now [] (held_after outputs.now observed.now removes.now writes.now) ≡ []) }
     ensures err { IfErr result (λ fault. (fault ≡ Fault.OutOfMemory)
@@ -39,7 +39,7 @@ pub fn planned(
 {
     check_planned(alloc, outputs, observed, removes, writes)?;
     let steps = named_steps(alloc, outputs, removes, writes)?;
-    let ordered = in_turn(alloc, &steps)?;
+    let ordered = in_step_order(alloc, &steps)?;
     Ok(owned(alloc, ordered.as_slice())?)
 }
 

@@ -4,7 +4,7 @@ ghost use Rattle.std.specs.Prelude.{if◌then◌else◌};
 ghost use Rattle.std.specs.List.{filter};
 ghost use Rattle.std.specs.Option.{option_copied};
 ghost use Rattle.gb_core.specs.Place.{is_place};
-ghost use Rattle.gb_run.specs.Steps.{in_turn};
+ghost use Rattle.gb_run.specs.Steps.{in_step_order};
 ghost use Rattle.gb_run.specs.ChangeTexts.{shown_steps, steps_in};
 
 use gb_core::bytes::Bytes;
@@ -13,11 +13,11 @@ use std::alloc::{AllocError, Global};
 use std::collections::BTreeMap;
 
 /// The steps in execution order: first the removals, by place, and then the writes, by place.
-pub fn in_turn<'a>(
+pub fn in_step_order<'a>(
     alloc: Global,
     steps: &BTreeMap<String, Option<&'a Bytes>>,
 ) -> Result<Vec<(Place, Option<&'a Bytes>)>, AllocError>
-    ensures { IfOk result (λ ordered. shown_steps ordered.items ≡ in_turn (steps_in steps.now)) }
+    ensures { IfOk result (λ ordered. shown_steps ordered.items ≡ in_step_order (steps_in steps.now)) }
 {
     let mut ordered = Vec::new(alloc);
     push_going(alloc, &mut ordered, steps)?;

@@ -141,8 +141,21 @@ fn escape(text: &str) -> Option<(char, &str)>
 }
 
 /// The content of a text and the input after its closing mark, from the input after its opening
-/// mark; nothing if the text is not closed or has a byte that no text can have.
+/// mark; nothing if the text is not closed or has a byte that no text can have. Where it has no
+/// escape, a short text takes no memory.
 fn content(alloc: Global, text: &str) -> Result<Option<(Text, &str)>, AllocError>
+    ensures exact { IfOk result (λ found. option_map (λ x. (x.0, x.1.now)) found ≡ content_at text.now) }
+    ensures shorter { IfOk result (λ found. IfSome found (λ x. length x.1.now < length text.now)) }
+{
+    let (run, after) = plain_run(text);
+    if begins(after, b'"') {
+        return Ok(Some((Text::from_str(alloc, run)?, past_first(after))));
+    }
+    content_by_runs(alloc, text)
+}
+
+/// The same, run by run between escapes.
+fn content_by_runs(alloc: Global, text: &str) -> Result<Option<(Text, &str)>, AllocError>
     ensures exact { IfOk result (λ found. option_map (λ x. (x.0, x.1.now)) found ≡ content_at text.now) }
     ensures shorter { IfOk result (λ found. IfSome found (λ x. length x.1.now < length text.now)) }
 {

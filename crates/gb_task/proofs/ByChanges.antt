@@ -41,7 +41,7 @@ use Rattle.gb_task.proofs.Cleared.{records_stay}
 use Rattle.gb_task.proofs.Outside.{kept, trees_outside}
 use Rattle.gb_task.proofs.Since.{goes_on_since}
 use Rattle.gb_task.proofs.Steps.{entry_made_then, kept_record, on_input, run_by_changes_failed, run_ended, said_then, unread, unrecorded}
-use Rattle.gb_task.proofs.Turning.{IsRun}
+use Rattle.gb_task.proofs.DueExecutions.{IsRun}
 use Rattle.gb_task.proofs.Whole.{as_found, fails_before, le_chain, refl_le}
 
 module _ (kinds : Kinds) (registry_of : Registering) (may_leave : Tearing) (options : Options) (plan : Plan) (task : Task) (was_read : Bool)

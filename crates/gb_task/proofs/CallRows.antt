@@ -1,6 +1,6 @@
 -- Worked lists of calls: what the execution of a task may have done, and lists that no execution makes. The task
 -- is `:a`, which writes `build/x`.
-use Rattle.std.specs.Prelude.{◌≡◌, ◌++◌, ◌⊎◌, true, List, [], ◌∷◌, Option, Some, Ok, Err, bytes_eq, codes}
+use Rattle.std.specs.Prelude.{◌≡◌, ◌++◌, true, List, [], ◌∷◌, Option, Some, Ok, Err, bytes_eq, codes}
 use Rattle.std.specs.List.{AllByRecursion}
 use Rattle.std.proofs.Common.{append-nil, append_assoc, refl, sym, ap, subst, inl, inr, ◌∙◌}
 use Rattle.gb_action.specs.Meanings.{Meanings}
@@ -185,7 +185,7 @@ other_bytes : ¬ DoesParts (part ∷ []) (Writes out (codes "B") max_file (Ok tt
 other_bytes done =
     not_true (ap (λ (calls : List Call). bytes_eq (bytes_written calls) (codes "A")) (just_this (Writes out (codes "B") max_file (Ok tt) ∷ []) (codes "L" ∷ []) done).0)
 
--- a task is not told executed though a write failed
+-- a task is not reported as executed though a write failed
 failed_but_well : ¬ DoesParts (part ∷ []) (Writes out (codes "A") max_file (Err folders.Device) ∷ []) (codes "L" ∷ []) (Ok tt)
 failed_but_well done = clash (just_this (Writes out (codes "A") max_file (Err folders.Device) ∷ []) (codes "L" ∷ []) done).0
   where

@@ -9,7 +9,7 @@ use Rattle.gb_folder.proofs.Changes.{HasRisen-before}
 use Rattle.gb_history.specs.Places.{record_place}
 use Rattle.gb_meaning.specs.Events.{Setting, is_touched_by, may_occur, own_files, rules_in}
 use Rattle.gb_meaning.specs.Kinds.{Kinds}
-use Rattle.gb_meaning.specs.Label.{Early, HasNoSource, IsLabelAt, Moment, early_case}
+use Rattle.gb_meaning.specs.Label.{Early, HasNoSource, IsOutcomeAt, Moment, early_case}
 use Rattle.gb_meaning.specs.Made.{rest_of}
 use Rattle.gb_meaning.specs.Memory.{Memory, World, forget}
 use Rattle.gb_meaning.specs.Tree.{has_no_source, input_faults, listing_faults, reported_of_tree}
@@ -40,7 +40,7 @@ use Rattle.gb_task.proofs.Outside.{kept}
 use Rattle.gb_task.proofs.Own.{is_kept, swapped}
 use Rattle.gb_task.proofs.Parts.{blocked_by_own, differs_outside, outside_same}
 use Rattle.gb_task.proofs.Taken.{found_at, taken_kept, taken_left, taken_existed}
-use Rattle.gb_task.proofs.Turning.{same_fault}
+use Rattle.gb_task.proofs.DueExecutions.{same_fault}
 use Rattle.gb_task.proofs.Whole.{as_found}
 use Rattle.gb_label.proofs.Cases.{cased}
 
@@ -111,7 +111,7 @@ module _ (setting : Setting) (own : Files) (options : Options) (plan : Plan) (ta
   emptied : (new : Exists) → new.world ≡ (let w : World = record { folder = record moment.world.folder { files = rest_of task moment.world.folder.files }; memory = forget moment.world.memory task.path } in w)
       → StartedExecution (rules_in setting own options plan) moment task (reported_of task (Ok tt)) new
   emptied new leaves = record {
-    label = inl (subst (λ (early : Option Early). IsLabelAt setting.kinds options plan task moment early outcomes.NoSource) (sym case) refl);
+    label = inl (subst (λ (early : Option Early). IsOutcomeAt setting.kinds options plan task moment early outcomes.NoSource) (sym case) refl);
     leaves = leaves;
     prints = refl;
     reading = λ place is at. absurd (let e = is in (cc));

@@ -13,7 +13,7 @@ use Rattle.gb_label.specs.Preparing.{IsPrepared, IsRead, IsObserved, MayPrepare}
 use Rattle.gb_label.specs.declared.prepare.Prepared.{Prepared}
 use Rattle.gb_label.specs.declared.prepare.Prepared.TheVariants as prepared
 use Rattle.gb_meaning.specs.Events.{Setting, ExistsInRun, is_touched_by, may_occur, own_files, rules_in}
-use Rattle.gb_meaning.specs.Label.{CannotRead, Early, HasNoActions, HasNoSource, IsLabelAt, Moment, Skips, early_case, some_outcome}
+use Rattle.gb_meaning.specs.Label.{CannotRead, Early, HasNoActions, HasNoSource, IsOutcomeAt, Moment, Skips, early_case, some_outcome}
 use Rattle.gb_meaning.specs.TrueRecord.{outside}
 use Rattle.gb_meaning.specs.Execution.{ByMachine, Cause, FailedRunLeaves, FailedRunPrints, FailureLeaves, FailurePrints, WorldState as Exists, StartedExecution, cause_of}
 use Rattle.gb_plan.specs.Graph.{Plan, needs_in}
@@ -30,7 +30,7 @@ use Rattle.gb_report.specs.declared.report.Outcome.TheVariants as outcomes
 use Rattle.gb_label.specs.Reading.{is_input_of}
 use Rattle.gb_task.specs.Settled.{AnswersAlone, IsOfTask, SettlesExecution, idle_outcome, settled_as, silent_report}
 use Rattle.gb_task.proofs.Outside.{early_outside}
-use Rattle.gb_task.proofs.Turning.{same_fault}
+use Rattle.gb_task.proofs.DueExecutions.{same_fault}
 
 same_outcome : (idle : Bool) → idle_outcome idle ≡ (if idle then outcomes.Executed else outcomes.UpToDate)
 same_outcome true = refl
@@ -81,7 +81,7 @@ module _ (setting : Setting) (own : Files) (options : Options) (plan : Plan) (ta
   fails_unread : (fault : Fault) (hindrances : List Fault) → early_case task moment.world.folder ≡ Some (CannotRead hindrances) → first_of hindrances ≡ Some fault
       → StartedExecution (rules_in setting own options plan) moment task (silent_report task path (outcomes.Failed fault)) unchanged
   fails_unread fault hindrances case first = record {
-    label = inl (subst (λ (early : Option Early). IsLabelAt setting.kinds options plan task moment early (outcomes.Failed fault)) (sym case) (fault, first, refl));
+    label = inl (subst (λ (early : Option Early). IsOutcomeAt setting.kinds options plan task moment early (outcomes.Failed fault)) (sym case) (fault, first, refl));
     leaves = subst (λ (early : Option Early). FailureLeaves setting.kinds options task fault moment.world moment.world early) (sym case) refl;
     prints = subst (λ (early : Option Early). FailurePrints setting.kinds options task moment.world [] fault early) (sym case) refl;
     reading = λ place is at. refl;

@@ -10,7 +10,7 @@ use Rattle.gb_history.specs.Places.{record_place}
 use Rattle.gb_history.specs.Record.{Record}
 use Rattle.gb_meaning.specs.Kinds.{Kinds}
 use Rattle.gb_meaning.specs.Memory.{Entry, Memory, World, entry_of, folder_contents, recalled}
-use Rattle.gb_meaning.specs.TrueRecord.{AreCollisionFree, IsMade, SaysNoRecord, Stores, contents_of, record_of}
+use Rattle.gb_meaning.specs.TrueRecord.{AreCollisionFree, IsMade, IsTextOfNoRecord, Stores, contents_of, record_of}
 use Rattle.gb_meaning.proofs.Common.{none_some, some_same}
 use Rattle.gb_meaning.proofs.Lemmas.Clear.{Among, separate_of_fewer, in_left, in_one, in_right}
 use Rattle.gb_meaning.proofs.Lemmas.Observed.{entry_observed}
@@ -76,8 +76,8 @@ module _ (kinds : Kinds) (task : Task) (files : Files) (memory : Memory) (world 
   known : (left : Option Bytes) (entry : Option Entry) (read : Option Record) → recalled memory task.path ≡ entry → Stores sha256 IsText task.path left entry → IsReadAs task.path left read
       → IsKnown kinds task world read
   known left None None e stored is = worth.kept ∙ e
-  known left None (Some run) e stored is = absurd (subst (SaysNoRecord IsText task.path) is.1 stored run is.2)
-  known left (Some entry) None e stored is = absurd (subst (SaysNoRecord IsText task.path) stored.1 is (record_of sha256 entry) stored.2)
+  known left None (Some run) e stored is = absurd (subst (IsTextOfNoRecord IsText task.path) is.1 stored run is.2)
+  known left (Some entry) None e stored is = absurd (subst (IsTextOfNoRecord IsText task.path) stored.1 is (record_of sha256 entry) stored.2)
   known left (Some entry) (Some run) e stored is =
       let same : is.0 ≡ stored.0 = some_same (sym is.1 ∙ stored.1) in
       let text : IsText task.path run stored.0 = subst (IsText task.path run) same is.2 in (

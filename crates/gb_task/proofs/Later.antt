@@ -16,7 +16,7 @@ use Rattle.gb_label.specs.Preparing.{IsReadFor, IsObservedFor}
 use Rattle.gb_label.specs.declared.prepare.Observed.{Observed}
 use Rattle.gb_meaning.specs.Events.{IsTornInRun, ExistsInRun, is_record_shut_out, is_record_too_long, may_occur, own_files, rules_in}
 use Rattle.gb_meaning.specs.Kinds.{Kinds}
-use Rattle.gb_meaning.specs.Label.{IsLabel, Moment, changes_from, early_case}
+use Rattle.gb_meaning.specs.Label.{IsOutcomeOf, Moment, changes_from, early_case}
 use Rattle.gb_meaning.specs.Memory.{Entry, World, recalled}
 use Rattle.gb_meaning.specs.TrueRecord.{IsMade, outside}
 use Rattle.gb_meaning.specs.Execution.{IsOfMachine, WorldState as Exists, StartedExecution}
@@ -241,10 +241,10 @@ module _ (kinds : Kinds) (registry_of : Registering) (first second : Tearing) (s
     records = turned.records;
   }
     where
-      label_so : IsLabel kinds options plan task moment report.outcome
+      label_so : IsOutcomeOf kinds options plan task moment report.outcome
           ⊎ IsOfMachine (rules_in (setting_with kinds registry_of second) (own_files old) options plan) (record { world = moment.world; outcomes = moment.outcomes; failures = mid }) task report.outcome
           (record { world = record { folder = outside new; memory = turned.memory }; failures = after })
-          → IsLabel kinds options plan task moment report.outcome
+          → IsOutcomeOf kinds options plan task moment report.outcome
           ⊎ IsOfMachine (rules_in (setting_with kinds registry_of first) (own_files old) options plan) moment task report.outcome
           (record { world = record { folder = outside new; memory = turned.memory }; failures = after })
       label_so (inl label) = inl label

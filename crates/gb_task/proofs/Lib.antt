@@ -4,12 +4,12 @@ mod Grown
 mod Decided
 pub mod CaseOutside
 mod Knowing
-mod CaseTurning
+mod CaseExecutions
 pub mod Own
 pub mod Outside
 pub mod Beside
 pub mod Memories
-mod Turning
+mod DueExecutions
 pub mod Parts
 mod Ended
 mod Added

@@ -62,7 +62,7 @@ use Rattle.gb_task.proofs.Outside.{kept, source_outside, trees_outside}
 use Rattle.gb_task.proofs.Own.{is_kept}
 use Rattle.gb_task.proofs.Parts.{blocked_by_own, differs_outside, in_way_before, outside_same}
 use Rattle.gb_task.proofs.Taken.{found_at, taken_kept, taken_left, taken_existed, taken_written}
-use Rattle.gb_task.proofs.Turning.{EndsFor, Goes, IsRun, by_itself, by_machine, ended, given_up, goes, lines_in, take_whole, torn, unbegun}
+use Rattle.gb_task.proofs.DueExecutions.{EndsFor, Goes, IsRun, by_itself, by_machine, ended, given_up, goes, lines_in, take_whole, torn, unbegun}
 
 same_ok : (one other : Files) → (let made_so : Result Files (List Fault) = Ok one in made_so) ≡ Ok other → one ≡ other
 same_ok one other e = cc

@@ -1,5 +1,5 @@
 -- The result of a record's fault, as a build reports it.
-use Rattle.std.specs.Prelude.{ℕ, ◌≡◌, ◌≢◌, Option, Err}
+use Rattle.std.specs.Prelude.{ℕ, ◌≢◌, Option, Err}
 use Rattle.std.proofs.Common.{refl, inl, inr}
 use Rattle.gb_folder.specs.Files.{Bytes, Contents, Files, Place, Tearing}
 use Rattle.gb_meaning.specs.Memory.{Entry, Memory}

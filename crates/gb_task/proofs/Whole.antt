@@ -36,7 +36,7 @@ use Rattle.gb_task.specs.Keeping.{IsRemembered, run_now, IsUnwritten}
 use Rattle.gb_task.specs.Executing.{BeginsAt, HasExecuted, IsDue, Registering, is_of_execution, report_of, setting_with}
 use Rattle.gb_task.proofs.Cleared.{empty_before, records_stay}
 use Rattle.gb_task.proofs.Outside.{changes_outside, kept}
-use Rattle.gb_task.proofs.Turning.{IsRun}
+use Rattle.gb_task.proofs.DueExecutions.{IsRun}
 use Rattle.gb_task.proofs.Steps.{entry_made_then, half_cleared, kept_record, on_input, run_ended, run_failed, said_then, unread, unrecorded}
 
 pub refl_le : (n : ℕ) → n ≤ n

@@ -7,7 +7,7 @@ use Rattle.gb_history.specs.declared.decide.Decision.TheVariants as decisions
 use Rattle.gb_label.specs.declared.prepare.Prepared.{Prepared}
 use Rattle.gb_label.specs.declared.prepare.Prepared.TheVariants as prepared
 use Rattle.gb_meaning.specs.Kinds.{Kinds}
-use Rattle.gb_meaning.specs.Label.{AreChanges, IsCurrent, IsIncremental, IsLabel, Moment}
+use Rattle.gb_meaning.specs.Label.{AreChanges, IsCurrent, IsIncremental, IsOutcomeOf, Moment}
 use Rattle.gb_meaning.specs.Label.{changes_from, has_one_writer, some_outcome}
 use Rattle.gb_meaning.specs.Memory.{World}
 use Rattle.gb_meaning.specs.Execution.{Leaves, Prints}
@@ -31,10 +31,10 @@ AnswersIdly plan moment task (prepared.Decided decisions.UpToDate basis observed
     outcome ≡ outcomes.UpToDate
 AnswersIdly plan moment task other outcome = ⊥
 
--- It is the task's label, no failure, and leaves everything as it was, without a line.
+-- Its outcome is that of the rules, no failure; everything stays as it was, and no line is printed.
 pub record IsIdleExecution (kinds : Kinds) (options : Options) (plan : Plan) (task : Task) (moment : Moment)
     (outcome : Outcome) : Type 0 where
-  pub label : IsLabel kinds options plan task moment outcome
+  pub label : IsOutcomeOf kinds options plan task moment outcome
   pub leaves : Leaves kinds options task moment.world outcome moment.world
   pub prints : Prints kinds options task moment.world outcome []
   pub no_failure : is_failed outcome ≡ false

@@ -1,4 +1,4 @@
-//! Whether a task is up to date by files that were seen, or else by what is read of it now.
+//! Whether a task is up to date by remembered digests, or else by what is read of it now.
 //!
 //! In a build where nothing is out of date a file between two tasks would be read twice: as output
 //! and as input. And a task of few files has no four to digest at a time. So files of later tasks are
@@ -31,7 +31,7 @@ use gb_tree::seen::Seen;
 use std::alloc::Global;
 
 /// What the execution of a started task is prepared for: that the task is up to date, where it is
-/// so by files that were seen; or else what is found by reading all of it. The files at the places
+/// so by remembered digests; or else what is found by reading all of it. The files at the places
 /// of `next` are read ahead first. Nothing is changed, even if it fails.
 pub(crate) fn prepare_by_seen<F: Folder>(
     alloc: Global,
@@ -78,8 +78,8 @@ pub(crate) fn prepare_by_seen<F: Folder>(
     prepare(alloc, folder, task, options, last, &none, true)
 }
 
-/// That the task is up to date, with what it was found so on, where it is so by files that were
-/// seen. Any other result is dropped, and so is a fault.
+/// That the task is up to date, with what it was found so on, where it is so by remembered
+/// digests. Any other result is dropped, and so is a fault.
 fn current_by_seen<F: Folder>(
     alloc: Global,
     folder: &mut F,
@@ -145,7 +145,7 @@ fn is_current(prepared: &Prepared) -> bool
     }
 }
 
-/// Whether an input or an output of the task may have been seen. It is a guess, and only speed
+/// Whether an input or an output of the task may be remembered. It is a guess, and only speed
 /// depends on it.
 fn was_seen(task: &TaskDeclaration, seen: &Seen) -> bool {
     task.outputs

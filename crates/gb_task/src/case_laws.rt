@@ -41,7 +41,7 @@ pub fn what_is_read_is_known()
     ensures { WhatIsReadIsKnown }
 {}
 
-/// Where an execution has nothing to do, its outcome is the task's label and it changes nothing.
+/// Where an execution has nothing to do, its outcome is that of the rules, and it changes nothing.
 pub fn idle_executions_are_executions()
     ensures { IdleExecutionsAreExecutions }
 {}

@@ -53,7 +53,7 @@ use std::alloc::Global;
 /// Executes a started task. `last` is the record that was read of it, and `has_executed_need` says
 /// whether a task that it needs was executed in this build. `path` is a copy of the task's path,
 /// made in advance: it is moved into the report, so that a report allocates nothing. The files at
-/// the places of `next`, of this task and of later ones, are read ahead. A file that was seen is not
+/// the places of `next`, of this task and of later ones, are read ahead. A remembered file is not
 /// read again to find that the task is up to date; whatever runs reads all that it works on.
 pub fn execute_task<A: Actions, F: Folder>(
     alloc: Global,
@@ -91,8 +91,8 @@ pub fn execute_task<A: Actions, F: Folder>(
         → IsTrue (is_input_of task.now place || is_output_of task.now place) }
     ensures started { IsTrue (is_started result.outcome) }
     // Over any folder: a task that is skipped or has no actions is reported as such. A task that
-    // runs and has actions is up to date only with outputs, not stale and with no rerun asked, and
-    // without source only if a property skips it. Only `Executed` and `Failed` have lines.
+    // runs and has actions is up to date only with outputs, no false `upToDateWhen` and no requested
+    // rerun, and without source only if a property skips it. Only `Executed` and `Failed` have lines.
     ensures alone { IsAnsweredAlone task.now.runs (is_empty task.now.actions) has_executed_need
         result.outcome }
     ensures answer { IsAnswer options task.now result }

@@ -10,8 +10,8 @@
 //!
 //! A file that an earlier task made is an output there and an input here. So the digests of the
 //! outputs of tasks that are up to date are remembered (`Seen` of `gb_tree`) until the build asks
-//! for a change, and a task is first looked at by these: if it is up to date by them, nothing of
-//! what was seen is read again. In any other case all is read, as above.
+//! for a change, and a task is first decided by these: if it is up to date by them, no remembered
+//! file is read again. In any other case all is read, as above.
 //!
 //! `execute_task` executes a task; `last` is the record that was read of it. Premises: the task
 //! `IsBuildable`, its outputs do not overlap, and it reads none of them. Where contents are known
@@ -39,6 +39,8 @@
 //!
 //! The executor decides by digests. The laws of [`case_laws`] say that a decision by whole contents
 //! is the same.
+//!
+//! What was set aside: `docs/DECISIONS.md#executions-and-runs`.
 #![tactic(auto)]
 
 mod adding;

@@ -1,7 +1,7 @@
 //! The recheck of a task that may run incrementally, on the very contents that its run works on.
 //!
-//! The executor takes the contents that the label has read, and reads now those that it did not
-//! keep. Then it decides once more, on the digests of exactly these contents: a file that somebody
+//! The executor takes the contents that were read for the decision, and reads now those that were
+//! not kept. Then it decides once more, on the digests of exactly these contents: a file that somebody
 //! saved in between is a change like any other, and where outputs or other properties were changed
 //! the run is a full one.
 ghost use Rattle.std.specs.Prelude.{◌≡◌, ◌||◌, false, IfOk, IfErr};

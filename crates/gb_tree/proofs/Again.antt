@@ -1,5 +1,5 @@
 -- What a second reading says, from the state before the first.
-use Rattle.std.proofs.Common.{◌≡◌, ◌≤◌, ℕ, Result, Ok, Err, IfOk}
+use Rattle.std.proofs.Common.{◌≤◌, ℕ, Result, Ok, Err, IfOk}
 use Rattle.gb_folder.specs.Files.{Place}
 use Rattle.gb_folder.proofs.Changes.{HasRisen-before}
 use Rattle.gb_tree.specs.declared.fault.TreeFault.{TreeFault}

@@ -9,7 +9,7 @@ use Rattle.gb_plan.proofs.Tests.{not_false}
 use Rattle.gb_plan.specs.Graph.{Plan}
 use Rattle.gb_plan.specs.declared.task.TaskDeclaration.{TaskDeclaration as Task}
 use Rattle.gb_meaning.specs.Kinds.{Kinds}
-use Rattle.gb_meaning.specs.Label.{Moment, Skips, HasNoActions, CannotRead, HasNoSource, EndsWith, IsCurrent, IsLabel, IsLabelAt, run_of}
+use Rattle.gb_meaning.specs.Label.{Moment, Skips, HasNoActions, CannotRead, HasNoSource, EndsWith, IsCurrent, IsOutcomeOf, IsOutcomeAt, run_of}
 use Rattle.gb_meaning.specs.Made.{made_of}
 use Rattle.gb_meaning.specs.Memory.{World, entry_of, output_files}
 use Rattle.gb_meaning.specs.Promise.{UpToDateIsMade}
@@ -23,7 +23,7 @@ module _ (kinds : Kinds) (options : Options) (plan : Plan) (task : Task) (moment
   not_run (Some fault) ends = cc
 
   by_case : (runs idle : Bool) (hindrances : List Fault) (no_source : Bool) → idle ≡ false
-      → IsLabelAt kinds options plan task moment (cond (not runs) (Some Skips) (cond idle (Some HasNoActions)
+      → IsOutcomeAt kinds options plan task moment (cond (not runs) (Some Skips) (cond idle (Some HasNoActions)
       (cond (not (is_empty hindrances)) (Some (CannotRead hindrances)) (cond no_source (Some HasNoSource) None)))) outcomes.UpToDate
       → IsCurrent options task moment.world
   by_case false idle hindrances no_source acts label = absurd (cc)
@@ -33,7 +33,7 @@ module _ (kinds : Kinds) (options : Options) (plan : Plan) (task : Task) (moment
   by_case true false [] false acts (inl current) = current.0
   by_case true false [] false acts (inr run) = absurd (not_run (run_of kinds task moment.world.folder.files).fault run.1)
 
-  pub is_current : is_empty task.actions ≡ false → IsLabel kinds options plan task moment outcomes.UpToDate → IsCurrent options task moment.world
+  pub is_current : is_empty task.actions ≡ false → IsOutcomeOf kinds options plan task moment outcomes.UpToDate → IsCurrent options task moment.world
   is_current acts label =
       by_case task.runs (is_empty task.actions) (input_faults task moment.world.folder ++ listing_faults task moment.world.folder)
       (has_no_source task moment.world.folder.files) acts label
@@ -41,7 +41,7 @@ module _ (kinds : Kinds) (options : Options) (plan : Plan) (task : Task) (moment
 pub up_to_date : UpToDateIsMade
 up_to_date kinds options plan moment task report new made acts is execution =
     let current : IsCurrent options task moment.world = elim execution.label [
-      | inl label ↦ is_current kinds options plan task moment acts (subst (IsLabel kinds options plan task moment) is label)
+      | inl label ↦ is_current kinds options plan task moment acts (subst (IsOutcomeOf kinds options plan task moment) is label)
       | inr machine ↦ absurd (cc (is, machine.2))
     ] in
     let same : new.world ≡ moment.world = subst (λ outcome. Leaves kinds options task moment.world outcome new.world) is execution.leaves in (

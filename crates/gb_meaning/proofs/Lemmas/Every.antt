@@ -1,5 +1,5 @@
 -- What a step implies for a build in which no task failed, and which contents are among those of a run.
-use Rattle.std.specs.Prelude.{List, [], ◌∷◌, ◌++◌, ⊤}
+use Rattle.std.specs.Prelude.{List, ◌++◌}
 use Rattle.std.proofs.Common.{inl, inr}
 use Rattle.gb_meaning.specs.declared.events.Event.{Event}
 use Rattle.gb_meaning.specs.declared.events.Event.TheVariants as events
@@ -10,7 +10,7 @@ use Rattle.gb_meaning.specs.Execution.{Guard}
 use Rattle.gb_meaning.specs.Events.{Setting, State, Step}
 use Rattle.gb_meaning.specs.Headline.{observed_with}
 use Rattle.gb_meaning.specs.Every.{Succeeds}
-use Rattle.gb_meaning.proofs.Lemmas.Clear.{Among, separate_of_fewer, in_left, in_right, in_one}
+use Rattle.gb_meaning.proofs.Lemmas.Clear.{Among, in_left, in_right, in_one}
 
 -- the contents so far, and those before and after an event, are among all
 pub up_to_here : (observed here next rest : List Bytes) → Among (observed ++ here ++ next) (observed ++ (here ++ (next ++ rest)))

@@ -31,7 +31,7 @@ use Rattle.gb_meaning.specs.Execution.{Builds, Guard, HasEnded, Leaves, May, Rul
 use Rattle.gb_meaning.specs.Edits.{IsStopped, PutStep, RemoveStep, Shown}
 use Rattle.gb_meaning.specs.Events.{HasPlan, IsBuild, Setting, State, Step, has_failure, may_occur, own_files, shown_in, world_in}
 use Rattle.gb_meaning.specs.Headline.{GoesThrough, IsClear, StillClear, contents_outside, is_of_device, observed_with}
-use Rattle.gb_meaning.specs.Every.{PlainRun, always, contents_of_all}
+use Rattle.gb_meaning.specs.Every.{UnconditionalRun, always, contents_of_all}
 use Rattle.gb_meaning.specs.Pinned.{HaveOnePlan, IsSettled, StatesAreOne}
 use Rattle.gb_meaning.proofs.Existing.{rules_of, existing}
 use Rattle.gb_meaning.proofs.Lemmas.Clear.{Among, separate_of_fewer, in_left, in_one, in_right, later_separate, places_of, rest_leave, existed}
@@ -279,7 +279,7 @@ module _ (setting : Setting) (one_plan : HaveOnePlan setting) (assumed : Guard) 
 module _ (setting : Setting) (one_plan : HaveOnePlan setting) where
   states_one : (clear : Type 0) (observed : List Bytes) (old real : State) (states reals : List State) (all : List Event) (reported : List Answer) (end left : Shown) → world_in old ≡ world_in real
       → IsFolder old.contents.files → IsFolder real.contents.files → AllZip IsSettled all reported → clear
-      → GoesThrough setting clear observed old states all reported end → PlainRun setting real reals all reported left
+      → GoesThrough setting clear observed old states all reported end → UnconditionalRun setting real reals all reported left
       → AreCollisionFree setting.digest (observed ++ contents_of_all (real ∷ reals)) → map world_in states ≡ map world_in reals
   states_one clear observed old real [] [] [] [] end left same folder real_folder settled is_clear run reals separate = refl
   states_one clear observed old real (next ∷ states) (then ∷ others) (event ∷ rest) (answer ∷ more) end left same folder real_folder settled is_clear run reals separate =

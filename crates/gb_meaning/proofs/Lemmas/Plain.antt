@@ -20,7 +20,7 @@ use Rattle.gb_meaning.specs.Execution.{May, Guard, Executions, Builds, moment_af
 use Rattle.gb_meaning.specs.Edits.{Shown}
 use Rattle.gb_meaning.specs.Events.{Setting, State, Step, may_occur, own_files, world_in}
 use Rattle.gb_meaning.specs.Headline.{GoesThrough, IsClear, StillClear, contents_outside, observed_with, state_of}
-use Rattle.gb_meaning.specs.Every.{PlainRun, ClearRunIsPlain, AllSucceed, EverySuccessIsFromScratch, Headline}
+use Rattle.gb_meaning.specs.Every.{UnconditionalRun, ClearRunIsUnconditional, AllSucceed, EverySuccessIsFromScratch, Headline}
 use Rattle.gb_meaning.specs.Every.{contents_of_all, always}
 use Rattle.gb_meaning.proofs.Lemmas.Clear.{Among, separate_of_fewer, all_hold}
 use Rattle.gb_meaning.proofs.Lemmas.Every.{up_to_here, joined, step_succeeds}
@@ -80,7 +80,7 @@ module _ (setting : Setting) where
 
   run_plain : (clear : Type 0) (observed : List Bytes) (old : State) (states : List State) (all : List Event) (reported : List Answer) (end : Shown)
       → GoesThrough setting clear observed old states all reported end
-      → clear → AreCollisionFree setting.digest (observed ++ contents_of_all (old ∷ states)) → PlainRun setting old states all reported end
+      → clear → AreCollisionFree setting.digest (observed ++ contents_of_all (old ∷ states)) → UnconditionalRun setting old states all reported end
   run_plain clear observed old [] [] [] end run is_clear separate = run
   run_plain clear observed old (next ∷ states) (event ∷ rest) (answer ∷ others) end run is_clear separate =
       let here_observed : List Bytes = contents_outside old.contents in
@@ -101,12 +101,12 @@ module _ (setting : Setting) where
   run_plain clear observed old (next ∷ states) [] (answer ∷ others) end run is_clear separate = absurd run
   run_plain clear observed old (next ∷ states) (event ∷ rest) [] end run is_clear separate = absurd run
 
-pub plain : (setting : Setting) → ClearRunIsPlain setting
+pub plain : (setting : Setting) → ClearRunIsUnconditional setting
 plain setting start states all reported end run separate = run_plain setting ⊤ _ start states all reported end run tt separate
 
--- in a plain run each success is from scratch
+-- in a collision-free execution of a list of events each success is from scratch
 plain_succeeds : (setting : Setting) (old : State) (states : List State) (all : List Event) (reported : List Answer) (end : Shown)
-    → PlainRun setting old states all reported end → AllSucceed setting old states all reported end
+    → UnconditionalRun setting old states all reported end → AllSucceed setting old states all reported end
 plain_succeeds setting old [] [] [] end run = run.1
 plain_succeeds setting old (next ∷ states) (event ∷ rest) (answer ∷ others) end run =
     (step_succeeds setting always [] old next event answer tt (run.1 []), plain_succeeds setting next states rest others end run.3)

@@ -14,7 +14,7 @@ use Rattle.gb_meaning.specs.TrueRecord.{Stores}
 use Rattle.gb_meaning.specs.Edits.{Shown}
 use Rattle.gb_meaning.specs.Events.{Setting, State}
 use Rattle.gb_meaning.specs.Headline.{Registering, HoldsMemory}
-use Rattle.gb_meaning.specs.Every.{PlainRun}
+use Rattle.gb_meaning.specs.Every.{UnconditionalRun}
 use Rattle.gb_meaning.specs.Sessions.{Session, IsEdited, SessionsHold, AllHold, HeadlineOfSessions, begins, remembered_after, setting_at, still_remembered}
 use Rattle.gb_meaning.proofs.Common.{none_some}
 use Rattle.gb_meaning.proofs.Lemmas.Files.{tied_same, T_of, of_T}
@@ -61,9 +61,9 @@ module _ (setting : Setting) where
       found : (path : Path) → recalled (where_key byte_order there remembered) path ≡ cond (there path) (recalled remembered path) None
       found path = find-where_key byte_order there path (λ x e. ap there (sym (tied_same path x e))) remembered
 
-  -- what a plain run leaves is what is remembered after its last state
+  -- what a collision-free execution leaves is what is remembered after its last state
   plain_end : (old : State) (states : List State) (all : List Event) (reported : List Answer) (end : Shown) → HoldsMemory setting old.contents old.remembered
-      → PlainRun setting old states all reported end → HoldsMemory setting end.contents (remembered_after old.remembered states)
+      → UnconditionalRun setting old states all reported end → HoldsMemory setting end.contents (remembered_after old.remembered states)
   plain_end old [] [] [] end exists run = subst (λ folder. HoldsMemory setting folder old.remembered) run.1 exists
   plain_end old (next ∷ states) (event ∷ rest) (answer ∷ others) end exists run = plain_end next states rest others end run.2 run.3
   plain_end old [] [] (answer ∷ others) end exists run = absurd run

@@ -17,7 +17,7 @@ use Rattle.gb_meaning.specs.Memory.{World, folder_contents}
 use Rattle.gb_plan.specs.Graph.{Plan, Request, start, step, order, needs_in, finalized_by, is_ready, is_scheduled_in, stuck, brings, brought_by, declaration_at, selected, IsSchedule, IsScheduled}
 use Rattle.gb_plan.specs.declared.plan.Planned.{Planned}
 use Rattle.gb_report.specs.declared.report.Outcome.TheVariants as outcomes
-use Rattle.gb_meaning.specs.Label.{Moment, Early, Skips, HasNoActions, CannotRead, HasNoSource, early_case, some_outcome, IsLabelAt, EndsWith, run_of}
+use Rattle.gb_meaning.specs.Label.{Moment, Early, Skips, HasNoActions, CannotRead, HasNoSource, early_case, some_outcome, IsOutcomeAt, EndsWith, run_of}
 use Rattle.gb_report.specs.Outcome.{is_failed, is_executed, is_started}
 use Rattle.gb_meaning.specs.Execution.{May, Executions, StartedExecution, DoesStart, has_not_ended_well, is_uncalled, finalizes_started, moment_after}
 use Rattle.gb_meaning.specs.Outline.{AnswersAlone, AreOutlines, MayAnswer, idle_outcome, moment_by}
@@ -127,12 +127,12 @@ paths_push : (done : Outcomes) (path : Path) (outcome : Outcome) → paths_done 
 paths_push [] path outcome = refl
 paths_push (d ∷ done) path outcome = ap (λ ps. d.0 ∷ ps) (paths_push done path outcome)
 
--- a label is that of a started task
+-- the outcome is that of a started task
 ran_started : (fault : Option Fault) (outcome : Outcome) → EndsWith fault outcome → is_started outcome ≡ true
 ran_started None outcome to = ap is_started to
 ran_started (Some fault) outcome to = ap is_started to
 
-label_started : (kinds : Kinds) (options : Options) (plan : Plan) (task : Task) (moment : Moment) (case : Option Early) (outcome : Outcome) → IsLabelAt kinds options plan task moment case outcome → is_started outcome ≡ true
+label_started : (kinds : Kinds) (options : Options) (plan : Plan) (task : Task) (moment : Moment) (case : Option Early) (outcome : Outcome) → IsOutcomeAt kinds options plan task moment case outcome → is_started outcome ≡ true
 label_started kinds options plan task moment (Some Skips) outcome label = ap is_started label
 label_started kinds options plan task moment (Some HasNoActions) outcome label = ap is_started label ∙ one_of (some_outcome is_executed moment (needs_in plan task))
   where

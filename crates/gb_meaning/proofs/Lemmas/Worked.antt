@@ -18,7 +18,7 @@ use Rattle.gb_meaning.specs.Kinds.{Kinds}
 use Rattle.gb_meaning.specs.Made.{made, made_of, with_outputs, blocked_in, rest_of}
 use Rattle.gb_meaning.specs.Memory.{Memory, World, recalled, remember, forget, entry_of}
 use Rattle.gb_plan.specs.Graph.{Plan, needs_in}
-use Rattle.gb_meaning.specs.Label.{Moment, Early, Skips, HasNoActions, CannotRead, HasNoSource, some_outcome, IsLabelAt, EndsWith, run_of}
+use Rattle.gb_meaning.specs.Label.{Moment, Early, Skips, HasNoActions, CannotRead, HasNoSource, some_outcome, IsOutcomeAt, EndsWith, run_of}
 use Rattle.gb_report.specs.Outcome.{is_failed, is_executed}
 use Rattle.gb_meaning.specs.Execution.{May, Leaves, HasEnded, memory_after, StartedExecution}
 use Rattle.gb_plan.proofs.Tests.{not_true, not_false}
@@ -107,7 +107,7 @@ module _ (kinds : Kinds) (options : Options) (plan : Plan) (task : Task) (moment
       ]
 
   by_case : (outcome : Outcome) → is_failed outcome ≡ false → IsFolder old.folder.files → IsTrusted kinds old.memory task → (r a n : Bool) → task.runs ≡ r → is_empty task.actions ≡ a → has_no_source task old.folder.files ≡ n
-      → IsLabelAt kinds options plan task moment (case_from r a (input_faults task old.folder ++ listing_faults task old.folder) n) outcome
+      → IsOutcomeAt kinds options plan task moment (case_from r a (input_faults task old.folder ++ listing_faults task old.folder) n) outcome
       → Leaves kinds options task old outcome new → Did kinds task old new
   by_case outcome well folder trusted false a n runs acts source label leaves = skipped runs (subst (λ o. Leaves kinds options task old o new) label leaves)
   by_case outcome well folder trusted true true n runs acts source label leaves =
@@ -121,14 +121,14 @@ module _ (kinds : Kinds) (options : Options) (plan : Plan) (task : Task) (moment
   by_case outcome well folder trusted true false n runs acts source label leaves =
       elim (is_empty (input_faults task old.folder ++ listing_faults task old.folder))
       as (λ b. is_empty (input_faults task old.folder ++ listing_faults task old.folder) ≡ b
-      → IsLabelAt kinds options plan task moment (cond (not b) (Some (CannotRead (input_faults task old.folder ++ listing_faults task old.folder))) (cond n (Some HasNoSource) None)) outcome
+      → IsOutcomeAt kinds options plan task moment (cond (not b) (Some (CannotRead (input_faults task old.folder ++ listing_faults task old.folder))) (cond n (Some HasNoSource) None)) outcome
       → Did kinds task old new) [
         | false ↦ λ _ label. not_failed outcome label.0 well label.2
         | true ↦ λ empty label. readable_case n source (first_empty (input_faults task old.folder) (listing_faults task old.folder) empty) label
       ] refl label
     where
       readable_case : (n : Bool) → has_no_source task old.folder.files ≡ n → is_empty (input_faults task old.folder) ≡ true
-          → IsLabelAt kinds options plan task moment (cond n (Some HasNoSource) None) outcome → Did kinds task old new
+          → IsOutcomeAt kinds options plan task moment (cond n (Some HasNoSource) None) outcome → Did kinds task old new
       readable_case true source readable label =
           let end = subst (λ o. Leaves kinds options task old o new) label leaves in
           worked (record {

@@ -16,7 +16,7 @@ use Rattle.gb_plan.specs.declared.task.TaskDeclaration.{TaskDeclaration as Task}
 use Rattle.gb_action.specs.declared.output.Form.TheVariants.{Dir as DirForm}
 use Rattle.gb_plan.specs.Task.{Text}
 use Rattle.gb_plan.specs.declared.task.Action.{Action}
-use Rattle.gb_meaning.specs.TrueRecord.{RecordTexts, SaysNoRecord}
+use Rattle.gb_meaning.specs.TrueRecord.{RecordTexts, IsTextOfNoRecord}
 use Rattle.std.specs.Ordering.{eq_by_cmp}
 use Rattle.gb_core.specs.Lists.{byte_order}
 use Rattle.gb_report.specs.declared.fault.Fault.{Fault}
@@ -158,8 +158,8 @@ prefixes_are_observed path old (Some text) left is of_tool torn = by_count torn.
     none_left zero = refl
     none_left (suc n) = refl
 
-    by_count : (count : ℕ) → left ≡ Some (take count (codes "R")) → (left ≡ old) ⊎ (left ≡ Some text) ⊎ SaysNoRecord says_r path left
-    by_count zero e = inr (inr (subst (SaysNoRecord says_r path) (sym e) (λ reported same. not_true (sym (ap is_empty same)))))
+    by_count : (count : ℕ) → left ≡ Some (take count (codes "R")) → (left ≡ old) ⊎ (left ≡ Some text) ⊎ IsTextOfNoRecord says_r path left
+    by_count zero e = inr (inr (subst (IsTextOfNoRecord says_r path) (sym e) (λ reported same. not_true (sym (ap is_empty same)))))
     by_count (suc n) e = inr (inl (e ∙ ap (λ (more : Bytes). Some (82 ∷ more)) (none_left n) ∙ ap Some (sym of_tool.1)))
 
 -- ---- Where one listener refuses a call, the others are notified all the same

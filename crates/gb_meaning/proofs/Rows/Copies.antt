@@ -19,7 +19,7 @@ use Rattle.gb_meaning.specs.Memory.{World, Entry, Memory, entry_of}
 use Rattle.gb_meaning.specs.Tree.{tree_faults}
 use Rattle.gb_meaning.specs.Made.{made}
 use Rattle.gb_meaning.specs.Scratch.{from_scratch}
-use Rattle.gb_meaning.specs.Label.{Moment, IsIncremental, IsLabel}
+use Rattle.gb_meaning.specs.Label.{Moment, IsIncremental, IsOutcomeOf}
 use Rattle.gb_meaning.specs.Execution.{StartedExecution}
 use Rattle.gb_report.specs.Report.{report_text}
 use Rattle.gb_meaning.proofs.RowKinds.{row_kinds}
@@ -96,7 +96,7 @@ gen_is_current = record {
 abbrev pub rerun : Options
 rerun = record { keep_going = false; rerun = true; dry_run = false }
 
-pub gen_reruns : IsLabel row_kinds rerun (only gen) gen (at_first after_gen) outcomes.Executed
+pub gen_reruns : IsOutcomeOf row_kinds rerun (only gen) gen (at_first after_gen) outcomes.Executed
 gen_reruns = inr (λ current. not_false current.no_rerun, refl)
 
 pub reported_current : report_text (record { tasks = reported gen outcomes.UpToDate [] ∷ []; dry_run = false; listener_refused = false })

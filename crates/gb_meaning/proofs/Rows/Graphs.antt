@@ -1,15 +1,13 @@
 -- A task whose need fails, its finalizer, and a task after both.
-use Rattle.std.specs.Prelude.{◌≡◌, true, false, List, [], ◌∷◌, codes, refl, Ok}
+use Rattle.std.specs.Prelude.{◌≡◌, true, false, List, [], ◌∷◌, codes, refl}
 use Rattle.gb_report.specs.declared.fault.Fault.TheVariants as faults
 use Rattle.gb_report.specs.declared.report.Outcome.{Outcome}
 use Rattle.gb_report.specs.declared.report.Outcome.TheVariants as outcomes
 use Rattle.gb_report.specs.declared.report.Heard.TheVariants as heard
 use Rattle.gb_report.specs.declared.report.TaskReport.{TaskReport}
 use Rattle.gb_report.specs.declared.report.Report.{Report}
-use Rattle.gb_core.specs.declared.value.Value.{Value}
 use Rattle.gb_core.specs.declared.value.Value.TheVariants as values
-use Rattle.gb_plan.specs.Task.{Text, Path}
-use Rattle.gb_plan.specs.declared.task.Action.{Action}
+use Rattle.gb_plan.specs.Task.{Text}
 use Rattle.gb_plan.specs.declared.task.TaskDeclaration.{TaskDeclaration as Task}
 use Rattle.gb_plan.specs.Graph.{Plan}
 pub use Rattle.gb_plan.proofs.RowTasks.{action, asks, bad, fin, p, q, registry}

@@ -9,8 +9,7 @@ use Rattle.gb_tree.specs.Property.{doubled, in_order, paths_of}
 use Rattle.gb_meaning.proofs.Existing.{rules_of, existing}
 use Rattle.gb_meaning.specs.Events.{Setting, may_occur}
 use Rattle.std.specs.Str.{chars}
-use Rattle.std.specs.Prelude.{map, ◌≡◌, ◌⊎◌, List, true, false, [], ◌∷◌, codes, refl, Err, IsTrue, bytes_eq}
-use Rattle.std.specs.List.{list_any}
+use Rattle.std.specs.Prelude.{map, ◌≡◌, ◌⊎◌, List, true, false, [], ◌∷◌, codes, refl, Err, IsTrue}
 use Rattle.std.proofs.Common.{inl, inr, ap, arith}
 use Rattle.gb_report.specs.declared.fault.Fault.TheVariants as faults
 use Rattle.gb_report.specs.declared.report.Outcome.TheVariants as outcomes
@@ -21,7 +20,7 @@ use Rattle.gb_meaning.specs.Tree.{tree_of}
 use Rattle.gb_action.specs.Changes.{changes_between}
 use Rattle.gb_action.specs.declared.change.Change.TheVariants.{Removed, Modified, Added}
 use Rattle.gb_meaning.specs.Memory.{World, Entry}
-use Rattle.gb_meaning.specs.Label.{IsLabel}
+use Rattle.gb_meaning.specs.Label.{IsOutcomeOf}
 use Rattle.gb_report.specs.Outcome.{is_executed, is_started}
 use Rattle.gb_meaning.specs.TrueRecord.{AreCollisionFree}
 use Rattle.gb_meaning.specs.Execution.{Guard, StartedExecution, Prints, Executions, TouchesRecord}
@@ -50,7 +49,7 @@ no_room = record {
 }
 
 -- with room, the second fails
-pub fails : IsLabel row_kinds plain_run (only gen_fail) gen_fail (at_first before) (outcomes.Failed (faults.ActionFailed (codes "boom")))
+pub fails : IsOutcomeOf row_kinds plain_run (only gen_fail) gen_fail (at_first before) (outcomes.Failed (faults.ActionFailed (codes "boom")))
 fails = inr (λ current. none_some current.same, refl)
 
 -- ---- A task without outputs and without an entry touches no record
@@ -86,7 +85,7 @@ prints_none prints = elim prints [
     is_empty_of : List Bytes → Rattle.std.specs.Prelude.Bool
     is_empty_of lines = Rattle.std.specs.Prelude.not (is_empty lines)
 
--- ---- Without memory a label is right, though all contents have the same digest
+-- ---- Without memory an outcome is right, though all contents have the same digest
 
 abbrev pub all_collide : Guard
 all_collide contents = IsTrue (is_empty before.memory) ⊎ AreCollisionFree (λ bytes. []) contents

@@ -1,15 +1,10 @@
 -- A reader after a skipped task.
-use Rattle.std.specs.Prelude.{◌≡◌, true, false, List, [], ◌∷◌, codes, refl, Some}
+use Rattle.std.specs.Prelude.{◌≡◌, true, false, [], ◌∷◌, codes, refl, Some}
 use Rattle.std.proofs.Common.{inl, inr, lit≤}
 use Rattle.gb_report.specs.declared.report.Outcome.TheVariants as outcomes
-use Rattle.gb_folder.specs.Files.{Place, IsFolder}
-use Rattle.gb_plan.specs.Task.{Text, Path}
+use Rattle.gb_folder.specs.Files.{IsFolder}
 use Rattle.gb_plan.specs.declared.task.TaskDeclaration.{TaskDeclaration as Task}
-use Rattle.gb_plan.specs.declared.task.FileProperty.{FileProperty}
-use Rattle.gb_plan.specs.declared.task.Output.{Output}
-use Rattle.gb_action.specs.declared.output.Form.TheVariants.{File as FileForm}
 use Rattle.gb_plan.specs.Graph.{Plan}
-use Rattle.gb_tree.specs.declared.property.Naming.TheVariants.{Relative}
 use Rattle.gb_meaning.proofs.Existing.{rules_of, existing}
 use Rattle.gb_meaning.specs.Memory.{World, entry_of}
 use Rattle.gb_meaning.specs.Scratch.{from_scratch}
@@ -17,7 +12,7 @@ use Rattle.gb_meaning.specs.Execution.{Builds}
 use Rattle.gb_meaning.proofs.RowKinds.{row_kinds}
 use Rattle.gb_meaning.proofs.Common.{all_assumed}
 use Rattle.gb_plan.proofs.RowTasks.{a, reads_x}
-use Rattle.gb_meaning.proofs.Rows.Graphs.{action, asks, reported}
+use Rattle.gb_meaning.proofs.Rows.Graphs.{reported}
 use Rattle.gb_meaning.proofs.Rows.Finalized.{plain_run, no_fault_comes}
 use Rattle.gb_meaning.proofs.Rows.Copies.{folder}
 

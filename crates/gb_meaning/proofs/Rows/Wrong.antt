@@ -1,4 +1,4 @@
--- What the definitions refuse: wrong labels, outputs left over, a finalizer left out.
+-- What the definitions refuse: wrong outcomes, outputs left over, a finalizer left out.
 use Rattle.std.specs.Prelude.{◌≡◌, Bool, true, false, [], ◌∷◌, codes, refl, Option, bytes_eq, is_some}
 use Rattle.std.specs.List.{list_any}
 use Rattle.std.specs.Option.{unwrap_or}
@@ -13,9 +13,9 @@ use Rattle.gb_report.specs.declared.fault.Fault.TheVariants as faults
 use Rattle.gb_plan.specs.declared.task.TaskDeclaration.{TaskDeclaration as Task}
 use Rattle.gb_meaning.proofs.Existing.{rules_of, existing}
 use Rattle.gb_meaning.specs.Memory.{World, Entry, entry_of}
-use Rattle.gb_meaning.specs.Label.{IsLabel}
+use Rattle.gb_meaning.specs.Label.{IsOutcomeOf}
 use Rattle.gb_report.specs.Outcome.{is_executed, is_started}
-use Rattle.gb_meaning.specs.Execution.{May, Execution, StartedExecution, Leaves, HasEnded}
+use Rattle.gb_meaning.specs.Execution.{May, Execution, StartedExecution, Leaves}
 use Rattle.gb_meaning.proofs.RowKinds.{row_kinds}
 use Rattle.gb_plan.proofs.Tests.{not_true, not_false}
 use Rattle.gb_meaning.proofs.Rows.Graphs.{action, fin, plan, reported}
@@ -37,14 +37,14 @@ output_edited = folder ((codes "build.gb", codes "..") ∷ (codes "build/a.txt",
 abbrev has_z : Option Entry → Bool
 has_z entry = list_any (λ file. bytes_eq file.1 (codes "Z")) (unwrap_or entry gen_entry).files
 
-pub edited_output_is_not_current : ¬ IsLabel row_kinds plain_run (only gen) gen (at_first output_edited) outcomes.UpToDate
+pub edited_output_is_not_current : ¬ IsOutcomeOf row_kinds plain_run (only gen) gen (at_first output_edited) outcomes.UpToDate
 edited_output_is_not_current label = elim label [
   | inl current ↦ not_true (ap has_z current.0.same)
   | inr run ↦ not_false (ap is_current run.1)
 ]
 
 -- what is current is not run again
-pub current_is_not_run : ¬ IsLabel row_kinds plain_run (only gen) gen (at_first after_gen) outcomes.Executed
+pub current_is_not_run : ¬ IsOutcomeOf row_kinds plain_run (only gen) gen (at_first after_gen) outcomes.Executed
 current_is_not_run label = elim label [
   | inl current ↦ not_false (ap is_executed current.1)
   | inr run ↦ run.0 (record { has_outputs = refl; not_stale = refl; no_rerun = refl; same = refl })

@@ -1,6 +1,6 @@
 use Rattle.std.proofs.Common.{◌≡◌, ◌⊎◌, Ok, Err, List, ap, inl, inr, subst, sym, ◌∙◌}
 use Rattle.std.specs.Prelude.{IfOk}
-use Rattle.gb_build.specs.Scripts.{FolderSays}
+use Rattle.gb_build.specs.Scripts.{FolderDeclares}
 use Rattle.gb_check.specs.Sites.{IsUnread}
 use Rattle.gb_check.specs.declared.findings.Findings.{Findings}
 use Rattle.gb_folder.specs.Files.{Contents, Files}
@@ -33,8 +33,8 @@ returns-in-Ok-clause-reply g c =
     let back = c.check_configured-found.ensures.reads.requests.back in
     let tables = tables_of g.T.Transforms.meanings M c.args.tables.now in
     let given = c.args.invocation.now.properties in
-    let said : known → FolderSays tables old.files given (Ok source) =
-    λ faithful. subst (λ values. FolderSays tables old.files values (Ok source)) (c.into_vec-given.ensures ∙ c.in_ok-copied.ensures) (c.in-Ok.ensures.said (back faithful)) in
+    let said : known → FolderDeclares tables old.files given (Ok source) =
+    λ faithful. subst (λ values. FolderDeclares tables old.files values (Ok source)) (c.into_vec-given.ensures ∙ c.in_ok-copied.ensures) (c.in-Ok.ensures.said (back faithful)) in
     let found : IfOk c.check_configured-found.result (AreFindingsOf tables known source mid) =
     subst (λ (handed_in : tables_of_code.Tables _ _ _ _ _ _ _). IfOk c.check_configured-found.result (AreFindingsOf (tables_of g.T.Transforms.meanings M handed_in) known source mid)) c.in-Ok.ensures.tables c.check_configured-found.ensures.found in
     let Unread : Contents → Fault → Type 0 = λ contents fault. (scripts : List (Path × List Statement)) × IsRead source scripts × IsUnread contents.files scripts fault in
@@ -72,7 +72,7 @@ returns-in-Err-clause-reply g c =
     let given = c.args.invocation.now.properties in
     let refused = c.in-Err.fault in
     let Replied : Findings → Type 0 = λ found. IsChecked tables known c.args.invocation.now old found ⊎ IsFoundAt tables known old.files found in
-    let Refused : List (List _ × List _) → Fault → Type 0 = λ values fault. IsOfMachine before between fault ⊎ FolderSays tables old.files values (Err fault) in
+    let Refused : List (List _ × List _) → Fault → Type 0 = λ values fault. IsOfMachine before between fault ⊎ FolderDeclares tables old.files values (Err fault) in
     let Faultless : Fault → Type 0 = λ fault. (fault ≡ refused) × IsFaultless tables mid.files in
     let Told : Fault → Type 0 = λ fault. IsOfMachine between after fault ⊎ (IsTextFault mid.files fault ⊎ Faultless fault) in
     let Worse : Fault → Type 0 = λ fault. IsOfMachine before after fault ⊎ IsTextFault old.files fault in

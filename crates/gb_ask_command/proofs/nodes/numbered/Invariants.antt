@@ -1,4 +1,4 @@
-use Rattle.std.proofs.Common.{◌≡◌, take}
+use Rattle.std.proofs.Common.{take}
 use Rattle.std.specs.List.{AllZip}
 use Rattle.gb_ask_command.specs.Graph.{IsNodeOf}
 use Rattle.gb_ask_command.proofs.nodes.numbered.Given as goal

@@ -1,6 +1,6 @@
 use Rattle.std.proofs.Common.{◌⊎◌, List, Ok, Err, subst, ◌∙◌}
 use Rattle.std.specs.Prelude.{MatchResult}
-use Rattle.gb_build.specs.Scripts.{FolderSays}
+use Rattle.gb_build.specs.Scripts.{FolderDeclares}
 use Rattle.gb_plan.specs.Task.{Text}
 use Rattle.gb_registry.specs.Tables.{tables_of}
 use Rattle.gb_folder.specs.Faults.{IsOfMachine}
@@ -15,6 +15,6 @@ returns-in-Ok-clause-read g c =
     let before = F.device.failures c.args.folder.now in
     let after = F.device.failures c.read_registry.new.folder in
     let given = c.args.invocation.now.properties in
-    where_known (F.device.faithful c.read_registry.new.folder) (λ configured. FolderSays tables files given (Ok configured.registry)) (λ fault. IsOfMachine before after fault ⊎ FolderSays tables files given (Err fault)) c.read_registry.result
-    (λ faithful. subst (λ (values : List (Text × Text)). MatchResult c.read_registry.result (λ configured. FolderSays tables files values (Ok configured.registry)) (λ fault. IsOfMachine before after fault ⊎ FolderSays tables files values (Err fault)))
+    where_known (F.device.faithful c.read_registry.new.folder) (λ configured. FolderDeclares tables files given (Ok configured.registry)) (λ fault. IsOfMachine before after fault ⊎ FolderDeclares tables files given (Err fault)) c.read_registry.result
+    (λ faithful. subst (λ (values : List (Text × Text)). MatchResult c.read_registry.result (λ configured. FolderDeclares tables files values (Ok configured.registry)) (λ fault. IsOfMachine before after fault ⊎ FolderDeclares tables files values (Err fault)))
     (c.into_vec-given.ensures ∙ c.in-Ok.ensures) (c.read_registry.ensures.said faithful))

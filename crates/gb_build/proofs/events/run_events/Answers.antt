@@ -6,7 +6,7 @@ use Rattle.gb_meaning.proofs.Lemmas.Plain.{headline}
 use Rattle.gb_meaning.specs.declared.events.Answer.{Answer}
 use Rattle.gb_meaning.specs.declared.events.Event.{Event}
 use Rattle.gb_meaning.specs.Edits.{Shown}
-use Rattle.gb_meaning.specs.Headline.{AllKeepElsewhere, HasFailed, HaveHeardAll, times_blamed_in_all}
+use Rattle.gb_meaning.specs.Headline.{AllKeepElsewhere, HasFailed, HaveHeardAll, times_attributed_in_all}
 use Rattle.gb_registry.specs.Tables.{tables_of}
 use Rattle.gb_build.proofs.Alike.{leads_alike}
 use Rattle.gb_build.proofs.Blaming.{blamed_more}
@@ -38,7 +38,7 @@ loop-event-preserved g c =
       room = omega (arith, c.push.ensures.capacity, so_far.room);
       long = omega (arith, c.in_ok-push.ensures.len, so_far.long);
       each = grind arith;
-      device = subst (λ (reported : List Answer). HasFailed (times_blamed_in_all reported) start.failures next.failures) (sym items)
+      device = subst (λ (reported : List Answer). HasFailed (times_attributed_in_all reported) start.failures next.failures) (sym items)
           (blamed_more c.loop-event.answers.items c.take.result start.failures here.failures next.failures so_far.device c.take.ensures.device taken.count);
       heard = subst (λ (reported : List Answer). HaveHeardAll reported (map ear c.args.listeners.now.items) (map ear c.take.new.listeners.items)) (sym items)
           (heard_more c.loop-event.answers.items c.take.result _ _ _ so_far.heard c.take.ensures.heard);

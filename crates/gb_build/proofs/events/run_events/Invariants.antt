@@ -4,7 +4,7 @@ use Rattle.gb_build.specs.Registering.{registers_in}
 use Rattle.gb_meaning.specs.declared.events.Answer.{Answer}
 use Rattle.gb_meaning.specs.declared.events.Event.{Event}
 use Rattle.gb_meaning.specs.Edits.{Shown}
-use Rattle.gb_meaning.specs.Headline.{AllKeepElsewhere, HasFailed, HaveHeardAll, times_blamed_in_all}
+use Rattle.gb_meaning.specs.Headline.{AllKeepElsewhere, HasFailed, HaveHeardAll, times_attributed_in_all}
 use Rattle.gb_meaning.specs.Kinds.{Kinds}
 use Rattle.gb_records.specs.Assumed.{IsAssumed}
 use Rattle.gb_registry.specs.Tables.{tables_of}
@@ -23,7 +23,7 @@ invariant-loop-event g l =
       long : vec_len l.answers ≡ l.event-index;
       each : length l.answers.items ≡ l.event-index;
       requests : EventsRequest F.device (tables_of g.T.Transforms.meanings g.A.Actions.meanings l.tables) (take l.event-index l.events) l.answers.items l.fn.folder l.folder;
-      device : HasFailed (times_blamed_in_all l.answers.items) (F.device.failures l.fn.folder) (F.device.failures l.folder);
+      device : HasFailed (times_attributed_in_all l.answers.items) (F.device.failures l.fn.folder) (F.device.failures l.folder);
       heard : HaveHeardAll l.answers.items (map g.L.TaskListener.ear l.fn.listeners.items) (map g.L.TaskListener.ear l.listeners.items);
       elsewhere : F.device.faithful l.folder → AllKeepElsewhere (registers_in tables) (take l.event-index l.events) l.answers.items (F.device.contents l.fn.folder) (F.device.contents l.folder);
       -- with any run that continues from here, these events are one run

@@ -5,7 +5,7 @@ use Rattle.gb_meaning.specs.declared.events.Answer.{Answer}
 use Rattle.gb_meaning.specs.declared.events.Event.{Event}
 use Rattle.gb_meaning.specs.declared.events.Event.TheVariants as events
 use Rattle.gb_meaning.specs.Edits.{Shown}
-use Rattle.gb_meaning.specs.Headline.{EventKeeps, HasFailed, times_blamed}
+use Rattle.gb_meaning.specs.Headline.{EventKeeps, HasFailed, times_attributed}
 use Rattle.gb_registry.specs.Tables.{tables_of}
 use Rattle.gb_build.specs.Answers.{edit_answer}
 use Rattle.gb_build.proofs.Blaming.{edit_blames}
@@ -74,19 +74,19 @@ returns-in-Lost-clause-leads g c = λ faithful kinds assumed.
 pub returns-in-Put-clause-device : goal.returns-in-Put-clause-device
 returns-in-Put-clause-device g c =
     let F = g.F.Folder in
-    subst (λ (answer : Answer). HasFailed (times_blamed answer) (F.device.failures c.args.folder.now) (F.device.failures c.put.new.folder)) (sym c.edited.ensures)
+    subst (λ (answer : Answer). HasFailed (times_attributed answer) (F.device.failures c.args.folder.now) (F.device.failures c.put.new.folder)) (sym c.edited.ensures)
     (edit_blames c.put.result (F.device.failures c.args.folder.now) (F.device.failures c.put.new.folder) c.put.ensures.count c.put.ensures.blame)
 
 pub returns-in-Remove-clause-device : goal.returns-in-Remove-clause-device
 returns-in-Remove-clause-device g c =
     let F = g.F.Folder in
-    subst (λ (answer : Answer). HasFailed (times_blamed answer) (F.device.failures c.args.folder.now) (F.device.failures c.remove.new.folder)) (sym c.edited-in-Remove.ensures)
+    subst (λ (answer : Answer). HasFailed (times_attributed answer) (F.device.failures c.args.folder.now) (F.device.failures c.remove.new.folder)) (sym c.edited-in-Remove.ensures)
     (edit_blames c.remove.result (F.device.failures c.args.folder.now) (F.device.failures c.remove.new.folder) c.remove.ensures.count c.remove.ensures.blame)
 
 pub returns-in-Lost-clause-device : goal.returns-in-Lost-clause-device
 returns-in-Lost-clause-device g c =
     let F = g.F.Folder in
-    subst (λ (answer : Answer). HasFailed (times_blamed answer) (F.device.failures c.args.folder.now) (F.device.failures c.lose.new.folder)) (sym c.edited-in-Lost.ensures)
+    subst (λ (answer : Answer). HasFailed (times_attributed answer) (F.device.failures c.args.folder.now) (F.device.failures c.lose.new.folder)) (sym c.edited-in-Lost.ensures)
     (edit_blames c.lose.result (F.device.failures c.args.folder.now) (F.device.failures c.lose.new.folder) c.lose.ensures.requests.count c.lose.ensures.blame)
 
 pub returns-in-Put-clause-requests : goal.returns-in-Put-clause-requests
@@ -119,7 +119,7 @@ returns-in-Invoke-clause-requests g c =
 pub returns-in-Invoke-clause-device : goal.returns-in-Invoke-clause-device
 returns-in-Invoke-clause-device g c =
     let F = g.F.Folder in
-    subst (λ (answer : Answer). HasFailed (times_blamed answer) (F.device.failures c.args.folder.now) (F.device.failures c.invoke.new.folder)) (sym c.built.ensures) c.invoke.ensures.does.blame
+    subst (λ (answer : Answer). HasFailed (times_attributed answer) (F.device.failures c.args.folder.now) (F.device.failures c.invoke.new.folder)) (sym c.built.ensures) c.invoke.ensures.does.blame
 
 pub returns-in-Invoke-clause-keeps : goal.returns-in-Invoke-clause-keeps
 returns-in-Invoke-clause-keeps g c = λ faithful.

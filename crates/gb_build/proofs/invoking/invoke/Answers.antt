@@ -6,7 +6,7 @@ use Rattle.gb_folder.proofs.Asked.{requests_nothing}
 use Rattle.gb_declare.specs.Registered.{registry_said}
 use Rattle.gb_meaning.specs.Edits.{Shown}
 use Rattle.gb_meaning.specs.Events.{IsNotBuilt, is_read_first}
-use Rattle.gb_meaning.specs.Headline.{KeepsElsewhere, answer_of, times_blamed}
+use Rattle.gb_meaning.specs.Headline.{KeepsElsewhere, answer_of, times_attributed}
 use Rattle.gb_meaning.specs.declared.events.Event.TheVariants as events
 use Rattle.gb_plan.specs.Graph.{IsRegistry}
 use Rattle.gb_records.specs.Assumed.{IsAssumed}
@@ -110,7 +110,7 @@ returns-clause-does g c =
           c.build_registered-answered.result c.build_registered-answered.ensures.places;
       blame =
           let F = g.F.Folder in
-          failed_since (times_blamed (answer_of c.build_registered-answered.result)) (F.device.failures c.args.folder.now) (F.device.failures c.read_registry.new.folder) (F.device.failures c.build_registered-answered.new.folder)
+          failed_since (times_attributed (answer_of c.build_registered-answered.result)) (F.device.failures c.args.folder.now) (F.device.failures c.read_registry.new.folder) (F.device.failures c.build_registered-answered.new.folder)
           c.read_registry.ensures.reads.requests.count c.build_registered-answered.ensures.device;
     }
 

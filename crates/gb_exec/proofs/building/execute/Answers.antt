@@ -12,7 +12,7 @@ use Rattle.gb_report.specs.declared.report.TaskReport.{TaskReport}
 use Rattle.gb_task.specs.Executing.{setting_with}
 use Rattle.gb_exec.specs.Built.{HasBuilt}
 use Rattle.gb_meaning.specs.Headline.{HasFailed}
-use Rattle.gb_exec.specs.Failing.{times_blamed}
+use Rattle.gb_exec.specs.Failing.{times_attributed}
 use Rattle.gb_exec.specs.Reports.{IsOf}
 use Rattle.gb_exec.proofs.Skipping.{dry_blames, dry_built, dry_of}
 use Rattle.gb_exec.proofs.Hearing.{unnotified}
@@ -44,7 +44,7 @@ returns-then-options-clause-printed g c =
 pub returns-then-options-clause-device : goal.returns-then-options-clause-device
 returns-then-options-clause-device g c =
     let F = g.F.Folder in
-    subst (λ (rs : List TaskReport). HasFailed (times_blamed rs) (F.device.failures c.args.folder.now) (F.device.failures c.args.folder.now)) (sym (c.with_reports.ensures.tasks ∙ c.in_ok-dry_reports.ensures ∙ ap dry_reports c.as_slice-tasks.ensures))
+    subst (λ (rs : List TaskReport). HasFailed (times_attributed rs) (F.device.failures c.args.folder.now) (F.device.failures c.args.folder.now)) (sym (c.with_reports.ensures.tasks ∙ c.in_ok-dry_reports.ensures ∙ ap dry_reports c.as_slice-tasks.ensures))
     (dry_blames c.args.plan.now (F.device.failures c.args.folder.now))
 
 pub returns-then-options-clause-build : goal.returns-then-options-clause-build

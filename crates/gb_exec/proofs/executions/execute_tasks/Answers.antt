@@ -34,7 +34,7 @@ use Rattle.gb_task.specs.Buildable.{IsBuildable}
 use Rattle.gb_exec.proofs.Asking.{AreSoFar, executions_places, executions_until, more_so_far, none_so_far}
 use Rattle.gb_task.proofs.ByOutcome.{execution_places}
 use Rattle.gb_meaning.specs.Headline.{HasFailed}
-use Rattle.gb_exec.specs.Failing.{times_blamed}
+use Rattle.gb_exec.specs.Failing.{times_attributed}
 use Rattle.gb_exec.specs.Reports.{IsOf}
 use Rattle.gb_exec.proofs.Counting.{failed_more}
 use Rattle.gb_exec.proofs.Ending.{endings_more, none_ended}
@@ -87,7 +87,7 @@ loop-path-init g c =
           (prints_nothing P.contents P.whole c.args.printer.now);
       requests = subst (λ (rs : List TaskReport). AreSoFar F.device g.A.Actions.meanings c.args.build.now.table.now c.args.build.now.options [] [] rs start start c.new-seen.result) (sym none)
           (none_so_far F.device g.A.Actions.meanings c.args.build.now.table.now c.args.build.now.options start c.new-seen.result c.new-seen.ensures);
-      device = subst (λ (rs : List TaskReport). HasFailed (times_blamed rs) (F.device.failures start) (F.device.failures start)) (sym none) (inl (omega arith));
+      device = subst (λ (rs : List TaskReport). HasFailed (times_attributed rs) (F.device.failures start) (F.device.failures start)) (sym none) (inl (omega arith));
       build = λ faithful kinds registry_of remembered clear observed assumed worth.
           let old : State = record { contents = F.device.contents start; remembered = remembered; failures = F.device.failures start } in
           subst (λ (rs : List TaskReport). IsUnderway kinds registry_of (F.device.may_leave start) clear observed c.args.build.now.options tasks old [] tasks rs
@@ -179,7 +179,7 @@ loop-path-preserved g c =
           (subst (λ (rs : List TaskReport). AreSoFar F.device g.A.Actions.meanings build.table.now build.options (take i tasks ++ planned ∷ []) (take i build.records.now ++ slice_index_or build.records.now i None ∷ []) rs start next remembered_now) (sym items)
           (more_so_far F.device g.A.Actions.meanings build.table.now build.options (take i tasks) (take i build.records.now) reports start now c.loop-path.seen far planned (slice_index_or build.records.now i None) report next remembered_now
           taken (c.execute_one-taken.ensures.seen far.last far.none far.were))));
-      device = subst (λ (rs : List TaskReport). HasFailed (times_blamed rs) (F.device.failures start) (F.device.failures next)) (sym items)
+      device = subst (λ (rs : List TaskReport). HasFailed (times_attributed rs) (F.device.failures start) (F.device.failures next)) (sym items)
           (failed_more reports report (F.device.failures start) (F.device.failures now) (F.device.failures next) inv.device count c.execute_one-taken.ensures.blame);
       build = λ faithful kinds registry_of remembered clear observed assumed worth.
           let old : State = record { contents = F.device.contents start; remembered = remembered; failures = F.device.failures start } in

@@ -17,7 +17,7 @@ use Rattle.gb_records.specs.Assumed.{IsAssumed}
 use Rattle.gb_task.specs.Executing.{Registering}
 use Rattle.gb_exec.proofs.Asking.{AreSoFar}
 use Rattle.gb_exec.specs.Built.{AreTrueBefore}
-use Rattle.gb_exec.specs.Failing.{times_blamed}
+use Rattle.gb_exec.specs.Failing.{times_attributed}
 use Rattle.gb_exec.specs.Reports.{IsOf}
 use Rattle.gb_exec.proofs.Shut.{HasOwnPlaces}
 use Rattle.gb_exec.proofs.Underway.{IsUnderway, outcome_in}
@@ -45,7 +45,7 @@ invariant-loop-path g l =
       heard : AllReported (heard_of false l.reports.items) l.all_heard (map ear l.fn.listeners.items) (map ear l.listeners.items);
       printed : Prints P.contents P.whole (flat_map task_text l.reports.items) l.fn.printer l.printer;
       requests : AreSoFar F.device g.A.Actions.meanings l.build.table.now l.build.options done (take l.index l.build.records.now) l.reports.items start l.folder l.seen;
-      device : HasFailed (times_blamed l.reports.items) (F.device.failures start) (F.device.failures l.folder);
+      device : HasFailed (times_attributed l.reports.items) (F.device.failures start) (F.device.failures l.folder);
       build : F.device.faithful l.folder → (kinds : Kinds) (registry_of : Registering) (remembered : Memory) (clear : Bool) (observed : List Bytes) → IsAssumed g.A.Actions.meanings l.build.table.now kinds (F.device.may_leave start)
           → (IsTrue clear → AreTrueBefore kinds tasks l.build.records.now observed (F.device.contents start) remembered)
           → IsUnderway kinds registry_of (F.device.may_leave start) clear observed l.build.options tasks

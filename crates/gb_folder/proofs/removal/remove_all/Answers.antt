@@ -1,4 +1,4 @@
-use Rattle.std.proofs.Common.{◌≡◌, [], true, IfErr, List, Ok, ◌∙◌, ap, subst}
+use Rattle.std.proofs.Common.{[], true, IfErr, List, Ok, ◌∙◌, ap, subst}
 use Rattle.std.proofs.lemmas.Result.{err_from_is_err_and}
 use Rattle.std.proofs.lemmas.List.{take_all}
 use Rattle.gb_folder.specs.Each.{Ended}

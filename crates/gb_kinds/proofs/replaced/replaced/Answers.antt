@@ -1,4 +1,4 @@
-use Rattle.std.proofs.Common.{◌≡◌, ◌++◌, ◌+◌, ◌-◌, ◌≤◌, List, length, take, drop, take_all, append_assoc, length-drop, sym, ap, subst, ◌∙◌, arith}
+use Rattle.std.proofs.Common.{◌≡◌, ◌++◌, ◌+◌, ◌-◌, length, take, drop, take_all, append_assoc, length-drop, sym, ap, subst, ◌∙◌, arith}
 use Rattle.std.proofs.lemmas.List.{take-append-le}
 use Rattle.bstr.specs.Text.{MatchList, replaced_at}
 use Rattle.bstr.proofs.lemmas.MatchListLemmas.{matches-list, MatchList-head, replaced-next, replaced-end}

@@ -1,6 +1,6 @@
 use Rattle.std.proofs.Common.{arith, ◌∙◌}
 use Rattle.gb_registry.specs.Tables.{tables_of}
-use Rattle.gb_nodes.specs.Site.{site_of}
+use Rattle.gb_declare.specs.Site.{site_of}
 use Rattle.gb_project.proofs.ScriptLemmas.{good_on, next_on, staged_on}
 use Rattle.gb_project.specs.Tasks.{registered_in}
 use Rattle.gb_project.specs.Views.{stage_of}

@@ -2,7 +2,7 @@ use Rattle.std.proofs.Common.{◌≡◌, ◌≤◌, length, drop}
 use Rattle.std.specs.List.{AllByRecursion}
 use Rattle.std.specs.Prelude.{filter_map, fold}
 use Rattle.gb_registry.specs.Tables.{tables_of}
-use Rattle.gb_nodes.specs.Site.{site_of}
+use Rattle.gb_declare.specs.Site.{site_of}
 use Rattle.gb_project.specs.Stage.{IsGood, declared_in, with_script, with_task}
 use Rattle.gb_project.specs.Steps.{Begins, task_paths}
 use Rattle.gb_project.specs.Tasks.{registered_in}

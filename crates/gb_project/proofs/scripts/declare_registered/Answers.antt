@@ -2,7 +2,7 @@ use Rattle.std.proofs.Common.{sym, ap, subst}
 use Rattle.gb_registry.specs.Said.{Registered}
 use Rattle.gb_registry.specs.Tables.{tables_of}
 use Rattle.gb_declare.specs.Views.{registered_of}
-use Rattle.gb_nodes.specs.Site.{site_of}
+use Rattle.gb_declare.specs.Site.{site_of}
 use Rattle.gb_project.proofs.ScriptLemmas.{on_ok, same_declared, same_task, task_with}
 use Rattle.gb_project.proofs.TaskLemmas.{staged_like}
 use Rattle.gb_project.specs.Stage.{IsGood}

@@ -2,7 +2,7 @@ use Rattle.std.proofs.Common.{◌≡◌, ◌≤◌, length, drop}
 use Rattle.std.specs.List.{AllByRecursion, flat_map}
 use Rattle.gb_registry.specs.SoFar.{scripts_in}
 use Rattle.gb_registry.specs.Tables.{tables_of}
-use Rattle.gb_nodes.specs.Site.{AreThere}
+use Rattle.gb_declare.specs.Site.{AreThere}
 use Rattle.gb_project.specs.Stage.{AreAllGood, begun, with_scripts}
 use Rattle.gb_project.specs.Steps.{Begins, laid_sites, task_paths}
 use Rattle.gb_project.specs.Tasks.{script_tasks}

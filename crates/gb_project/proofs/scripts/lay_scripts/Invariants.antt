@@ -1,6 +1,6 @@
 use Rattle.std.proofs.Common.{◌≡◌, ◌≤◌, ◌++◌, length, drop, take}
 use Rattle.gb_registry.specs.SoFar.{scripts_in}
-use Rattle.gb_nodes.specs.InTable.{scripts_faults, scripts_made, sites_made}
+use Rattle.gb_declare.specs.NodesInTable.{scripts_faults, scripts_made, sites_made}
 use Rattle.gb_project.specs.Steps.{laid_sites}
 use Rattle.gb_project.proofs.scripts.lay_scripts.Given as goal
 

@@ -1,8 +1,8 @@
 use Rattle.std.proofs.Common.{List, refl, sym, subst}
 use Rattle.gb_provider.specs.declared.expression.Node.{Node}
 use Rattle.gb_declare.specs.Views.{joined_of}
-use Rattle.gb_nodes.specs.Nodes.{AreMade}
-use Rattle.gb_nodes.specs.Site.{site_of}
+use Rattle.gb_declare.specs.Nodes.{AreMade}
+use Rattle.gb_declare.specs.Site.{site_of}
 use Rattle.gb_project.proofs.TaskLemmas.{declared_one}
 use Rattle.gb_project.specs.Stage.{row_made}
 use Rattle.gb_project.specs.declared.declared_task.DeclaredTask as kept

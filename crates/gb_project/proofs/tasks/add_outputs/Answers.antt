@@ -1,8 +1,8 @@
 use Rattle.std.proofs.Common.{List, ℕ, subst, sym}
 use Rattle.gb_declare.specs.Views.{joined_of}
-use Rattle.gb_nodes.specs.Statements.{IsRun}
-use Rattle.gb_evaluate.proofs.PartLemmas.{parts_within}
-use Rattle.gb_evaluate.specs.Rows.{AreWithin}
+use Rattle.gb_declare.specs.Statements.{IsRun}
+use Rattle.gb_project.proofs.PartLemmas.{parts_within}
+use Rattle.gb_project.specs.Rows.{AreWithin}
 use Rattle.gb_project.proofs.RowLemmas.{outputs_of_row}
 use Rattle.gb_project.proofs.ScriptLemmas.{on_ok}
 use Rattle.gb_project.specs.Stage.{with_outputs}

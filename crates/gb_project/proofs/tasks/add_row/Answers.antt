@@ -1,6 +1,6 @@
 use Rattle.gb_declare.specs.Views.{joined_of}
 use Rattle.gb_declare.specs.Whole.{trees_of as expressions_of}
-use Rattle.gb_nodes.specs.Site.{site_of}
+use Rattle.gb_declare.specs.Site.{site_of}
 use Rattle.gb_project.proofs.TaskLemmas.{row_count}
 use Rattle.gb_project.proofs.tasks.add_row.Goals as goal
 

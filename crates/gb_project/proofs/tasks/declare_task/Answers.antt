@@ -6,8 +6,8 @@ use Rattle.gb_declare.specs.Declaring.{faults_within, scope_in}
 use Rattle.gb_declare.specs.Joined.{joined}
 use Rattle.gb_declare.specs.Views.{joined_of, registered_of}
 use Rattle.gb_declare.specs.Whole.{trees_of as expressions_of}
-use Rattle.gb_nodes.specs.Site.{site_of}
-use Rattle.gb_nodes.specs.Wrong.{link_faults, root_faults}
+use Rattle.gb_declare.specs.Site.{site_of}
+use Rattle.gb_declare.specs.Wrong.{link_faults, root_faults}
 use Rattle.gb_project.proofs.TaskLemmas.{unless_holds}
 use Rattle.gb_project.specs.Stage.{IsGood}
 use Rattle.gb_project.proofs.tasks.declare_task.Goals as goal

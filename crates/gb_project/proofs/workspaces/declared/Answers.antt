@@ -8,8 +8,8 @@ use Rattle.gb_core.specs.Lists.{byte_order}
 use Rattle.gb_registry.specs.References.{Names}
 use Rattle.gb_registry.specs.SoFar.{scripts_in}
 use Rattle.gb_registry.specs.Tables.{tables_of}
-use Rattle.gb_nodes.specs.Site.{AreThere}
-use Rattle.gb_nodes.specs.InTable.{scripts_faults, scripts_made, sites_made}
+use Rattle.gb_declare.specs.Site.{AreThere}
+use Rattle.gb_declare.specs.NodesInTable.{scripts_faults, scripts_made, sites_made}
 use Rattle.gb_project.specs.Kept.{AreDeclared}
 use Rattle.gb_project.specs.Stage.{AreAllGood, begun, with_scripts}
 use Rattle.gb_project.specs.Steps.{IsStaged, laid_sites}

@@ -5,7 +5,7 @@ use Rattle.gb_registry.specs.References.{lookup_faults}
 use Rattle.gb_registry.specs.Tables.{tables_of}
 use Rattle.gb_report.specs.declared.fault.Fault.TheVariants.{TaskNotFound}
 use Rattle.gb_declare.specs.Realised.{Plain, first_or}
-use Rattle.gb_evaluate.specs.Over.{known_names}
+use Rattle.gb_project.specs.Over.{known_names}
 use Rattle.gb_project.proofs.WorkspaceLemmas.{unknown_task}
 use Rattle.gb_project.proofs.workspaces.realised.Goals as goal
 

@@ -3,8 +3,8 @@ use Rattle.gb_registry.specs.Faults.{first_of}
 use Rattle.gb_registry.specs.Projects.{Path, root_path}
 use Rattle.gb_registry.specs.References.{lookup_faults}
 use Rattle.gb_report.specs.declared.fault.Fault.TheVariants.{TaskNotFound}
-use Rattle.gb_evaluate.specs.Over.{known_names}
-use Rattle.gb_evaluate.proofs.KnownLemmas.{first_reported}
+use Rattle.gb_project.specs.Over.{known_names}
+use Rattle.gb_project.proofs.KnownLemmas.{first_reported}
 use Rattle.gb_project.proofs.workspaces.unknown.Goals as goal
 
 pub returns-in-Err : goal.returns-in-Err

@@ -1,4 +1,4 @@
-use Rattle.std.proofs.Common.{◌≡◌, ◌++◌, List, [], append-nil, append_assoc, ap, arith, refl, subst, sym, ◌∙◌}
+use Rattle.std.proofs.Common.{◌++◌, List, [], append-nil, append_assoc, ap, arith, refl, subst, sym, ◌∙◌}
 use Rattle.std.proofs.lemmas.List.{drop_all}
 use Rattle.gb_folder.specs.Files.{Contents, Place}
 use Rattle.gb_folder.proofs.Asked.{requests_then}

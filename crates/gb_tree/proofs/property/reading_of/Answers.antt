@@ -1,4 +1,4 @@
-use Rattle.std.proofs.Common.{IsTrue, ℕ}
+use Rattle.std.proofs.Common.{IsTrue}
 use Rattle.gb_folder.proofs.Asked.{requests_nothing, requests_then}
 use Rattle.gb_folder.specs.Files.{Place}
 use Rattle.gb_tree.specs.Property.{is_under_any}

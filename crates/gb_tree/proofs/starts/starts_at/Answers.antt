@@ -1,4 +1,4 @@
-use Rattle.std.proofs.Common.{◌≡◌, ◌++◌, [], List, map, sym, ap, ◌∙◌}
+use Rattle.std.proofs.Common.{◌++◌, List, map, sym, ap, ◌∙◌}
 use Rattle.gb_folder.specs.Files.{Place}
 use Rattle.gb_tree.specs.Property.{starts_of}
 use Rattle.gb_tree.proofs.Loops.{with_none}

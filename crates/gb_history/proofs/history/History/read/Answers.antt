@@ -2,7 +2,7 @@ use Rattle.std.proofs.Common.{◌≡◌, List, true≢false, ap, ap₂, sym, ◌
 use Rattle.std.specs.Prelude.{ℕ}
 use Rattle.serde_json.specs.Written.{compact_text}
 use Rattle.gb_history.specs.Record.{Record}
-use Rattle.gb_history.specs.Text.{history_json, history_text_in, sealed, unsealed, IsHistoryText}
+use Rattle.gb_history.specs.Text.{history_json, history_text_in, unsealed, IsHistoryText}
 use Rattle.gb_history.specs.declared.fault.RecordFault.TheVariants.{OutOfMemory}
 use Rattle.gb_history.proofs.Lists.{err_passes}
 use Rattle.gb_history.proofs.Records.{take-sealed}

@@ -1,4 +1,4 @@
-use Rattle.gb_history.specs.Text.{IsRecordRead, IsTextOf}
+use Rattle.gb_history.specs.Text.{IsTextOf}
 use Rattle.gb_history.specs.declared.record.Edition.TheVariants.{Second}
 use Rattle.gb_history.proofs.Lists.{all_true}
 use Rattle.gb_history.proofs.OneText.{one_text}

@@ -1,6 +1,0 @@
-use Rattle.std.specs.Prelude.{[], None}
-use Rattle.gb_ask_here.proofs.here.asked.Given as goal
-
--- nothing is said of the folder
-abbrev pub ghost-for_one_build : goal.ghost-for_one_build
-ghost-for_one_build g a = record { states = []; remains = None }

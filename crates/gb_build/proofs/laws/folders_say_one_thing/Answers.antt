@@ -1,5 +1,0 @@
-use Rattle.gb_build.proofs.OneLemmas.{folders_one}
-use Rattle.gb_build.proofs.laws.folders_say_one_thing.Goals as goal
-
-pub returns : goal.returns
-returns g c = λ tables. folders_one tables

@@ -1,5 +1,0 @@
-use Rattle.gb_build.proofs.OwnLemmas.{own_say_nothing}
-use Rattle.gb_build.proofs.laws.own_files_say_nothing.Goals as goal
-
-pub returns : goal.returns
-returns g c = λ tables. own_say_nothing tables

@@ -1,5 +1,0 @@
-use Rattle.gb_nodes.proofs.ChangeLemmas.{changes_keep_parts}
-use Rattle.gb_nodes.proofs.laws.changes_keep_parts.Goals as goal
-
-pub returns : goal.returns
-returns c start = changes_keep_parts

@@ -1,5 +1,0 @@
-use Rattle.gb_nodes.proofs.GrownLemmas.{rows_grow_so}
-use Rattle.gb_nodes.proofs.laws.rows_grow.Goals as goal
-
-pub returns : goal.returns
-returns c start tables source all whole = rows_grow_so tables source all whole
