@@ -4,7 +4,8 @@ ghost use Rattle.gb_provider.specs.declared.change.Change.TheVariants.{Conventio
 ghost use Rattle.gb_registry.specs.Faults.{ReportsFirst};
 ghost use Rattle.gb_declare.specs.Site.{AreThere, site_of};
 ghost use Rattle.gb_declare.specs.Statements.{IsRun, place_of, property_faults, statement_faults};
-ghost use Rattle.gb_declare.specs.Statements.{statement_made, statements_faults, statements_made, with_change};
+ghost use Rattle.gb_declare.specs.Statements.{statement_made, statements_faults, statements_made};
+ghost use Rattle.gb_declare.specs.Statements.{with_change};
 
 use crate::making::add_tree;
 use crate::position::Site;

@@ -79,7 +79,8 @@ pub fn execute<A: Actions, F: Folder, L: TaskListener, P: Printer>(
     // Faults are attributed to the device no more often than it failed, while the folder's count of
     // failures is below 2^64 - 1.
     ensures device { IfOk result (λ report.
-        HasFailed (times_attributed report.tasks) (F.device.failures folder.old) (F.device.failures folder.new)) }
+        HasFailed (times_attributed report.tasks)
+        (F.device.failures folder.old) (F.device.failures folder.new)) }
     ensures dry { options.dry_run ≡ true → folder.new ≡ folder.old }
     // So it asks for changes only at the outputs and records of its tasks.
     ensures changes { Requests F.device (changes_at (is_of_executions plan.now)) folder.old folder.new }

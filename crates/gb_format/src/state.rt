@@ -4,7 +4,8 @@ ghost use Rattle.gb_format.specs.Fits.{texts_of};
 ghost use Rattle.gb_format.specs.Rules.{room_at, room_after, is_broken, break_in, break_out, break_of};
 ghost use Rattle.gb_format.specs.Rules.{entered, inner_indent, inside_indent, is_stepped, break_after};
 ghost use Rattle.gb_format.specs.Rules.{break_rule};
-ghost use Rattle.gb_format.specs.Rules.{resumed, is_clause_cut, after_break, breaks, opened, joins, begun_rule};
+ghost use Rattle.gb_format.specs.Rules.{resumed, is_clause_cut, after_break, breaks, opened, joins};
+ghost use Rattle.gb_format.specs.Rules.{begun_rule};
 ghost use Rattle.gb_format.specs.Rules.{begun, comment_indent, closing_rule, closed, inner, begin, step};
 ghost use Rattle.gb_format.specs.Rules.{first_state};
 

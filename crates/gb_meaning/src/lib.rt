@@ -19,8 +19,8 @@
 //! | `ended_is_made`, `up_to_date_is_made` | the run of one task's actions; a task that is up to date |
 //! | `states_are_one` | the states of a run are determined by its answers, if no task failed and |
 //! | | nothing was hindered |
-//! | `some_kinds_agree`, `premises_hold_in_memory` | the premises hold: of any table without a repeated name, and |
-//! | | of an empty folder in memory |
+//! | `some_kinds_agree` | kinds agree with any table without a repeated name |
+//! | `premises_hold_in_memory` | the premises hold of an empty folder in memory |
 //!
 //! `proofs/Rows` has worked builds, and what the definitions refuse.
 //!
