@@ -32,9 +32,9 @@ DOCS = ["README.md"] + [f"docs/{name}" for name in sorted(os.listdir(f"{ROOT}/do
 MOST_COLUMNS = 110
 # What the clause `promise` of run_events names.
 ROOTS = [
-    ("gb_meaning", "Every"),
-    ("gb_meaning", "Headline"),
-    ("gb_meaning", "Kinds"),
+    ("gb_semantics", "Every"),
+    ("gb_semantics", "Headline"),
+    ("gb_semantics", "Kinds"),
     ("gb_records", "Assumed"),
     ("gb_build", "Registering"),
     ("gb_registry", "Tables"),

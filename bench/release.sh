@@ -16,6 +16,7 @@ trap 'rm -rf "$made"' EXIT
 top=$made/gb-$commit
 mkdir -p "$top/bin" "$top/share"
 for program in gb gb_ask gb_site; do
+  rm -f "crates/$program/out/$program"
   # without a script the program is refused (64), or prints how to ask: either way it was proved and built
   (cd "crates/$program" && rt run </dev/null >/dev/null 2>&1) || true
   [ -x "crates/$program/out/$program" ] || { echo "release.sh: $program was not built" >&2; exit 1; }

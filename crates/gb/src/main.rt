@@ -2,11 +2,18 @@
 //!
 //! Proved: that it never panics, and that it ends if its system calls end. Tested: that builds of a
 //! real folder do what those in memory do.
+//!
+//! It makes the tables of the built-in kinds and functions, and `here::build_here` of `gb_here`
+//! does the rest.
+//!
+//! Set aside: logic in the program, since only that of a library can be promised and tested
+//! separately; and an option that explains a build, since the contract of `gb_ask` says that it
+//! asks for no change, and that of a build cannot.
 #![tactic(auto)]
 
 use gb_action::table::ActionTable;
 use gb_answer::{builtin_actions, builtin_functions};
-use gb_command::run::UNPRINTED;
+use gb_cli::program::UNPRINTED;
 use gb_here::here::build_here;
 use gb_kinds::builtin::{Builtin, StoredAction};
 use std::alloc::AllocError;

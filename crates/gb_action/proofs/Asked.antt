@@ -2,8 +2,8 @@
 use Rattle.std.proofs.Common.{◌≡◌, Bool, true, false, true≢false, ◌&&◌, ◌||◌, if◌then◌else◌, List, [], ◌∷◌, map, Some, refl, sym, subst, bytes_eq}
 use Rattle.std.specs.List.{list_any}
 use Rattle.gb_action.specs.Shapes.{IsAsked, has_source, has_output, args_fit, target, is_form}
-use Rattle.gb_action.specs.declared.output.Form.{Form}
-use Rattle.gb_action.specs.declared.output.OutputFiles.{OutputFiles}
+use Rattle.gb_action.specs.declared.output_files.Form.{Form}
+use Rattle.gb_action.specs.declared.output_files.OutputFiles.{OutputFiles}
 use Rattle.gb_action.specs.declared.request.Request.{Request}
 use Rattle.gb_action.specs.declared.shape.Fit.TheVariants.{Yes, BadArgument, BadShape}
 use Rattle.gb_action.specs.declared.shape.Shape.{Shape}

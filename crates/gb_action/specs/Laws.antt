@@ -7,7 +7,7 @@ use Rattle.gb_action.specs.Meanings.{Making, Printing}
 use Rattle.gb_action.specs.Outputs.{written_at, exists_at, left_at}
 use Rattle.gb_action.specs.Replies.{Answers, made_for}
 use Rattle.gb_action.specs.declared.change.Change.{Change}
-use Rattle.gb_action.specs.declared.output.OutputFiles.{OutputFiles}
+use Rattle.gb_action.specs.declared.output_files.OutputFiles.{OutputFiles}
 use Rattle.gb_action.specs.declared.reply.Written.{Written}
 use Rattle.gb_action.specs.declared.reply.Reply.{Reply}
 use Rattle.gb_action.specs.declared.request.Request.{Request}

@@ -5,8 +5,8 @@ use Rattle.std.specs.List.{list_any}
 use Rattle.gb_core.specs.Place.{is_place}
 use Rattle.gb_core.specs.declared.value.Value.{Value}
 use Rattle.gb_core.specs.declared.value.Value.TheVariants as values
-use Rattle.gb_action.specs.declared.output.Form.{Form}
-use Rattle.gb_action.specs.declared.output.Form.TheVariants as forms
+use Rattle.gb_action.specs.declared.output_files.Form.{Form}
+use Rattle.gb_action.specs.declared.output_files.Form.TheVariants as forms
 use Rattle.gb_action.specs.declared.shape.Arg.{Arg}
 use Rattle.gb_action.specs.declared.shape.Arg.TheVariants as args
 use Rattle.gb_action.specs.declared.shape.Parameter.{Parameter}

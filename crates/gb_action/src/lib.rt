@@ -1,10 +1,10 @@
 //! Stored actions: the requests to them, their replies, and when a reply is right.
 //!
 //! An action is a value that some program stored: its kind, and a closure where the kind does not
-//! have the code itself. Nothing above this crate looks inside: an action is known by the number of
-//! its kind, and a kind by what the naming trait `Actions` declares for that number. The one
-//! contract is `Answers`: a full reply is what the kind makes; a reply to changes leads from what
-//! the kind made of the old files to what it makes of the new ones.
+//! have the code itself. The crates that use this one never inspect it: an action is known by the
+//! number of its kind, and a kind by what the naming trait `Actions` declares for that number. The
+//! one contract is `Answers`: a full reply is what the kind makes; a reply to changes leads from
+//! what the kind made of the old files to what it makes of the new ones.
 //!
 //! Out of scope: a table that is generic in the type of the closures, since a struct with a bound
 //! `Fn(..)` cannot store a closure together with a fact about it. So `Actions` has the stored type
@@ -22,7 +22,7 @@ pub mod change;
 pub mod files;
 pub mod laws;
 pub mod list;
-pub mod output;
+pub mod output_files;
 pub mod reply;
 pub mod request;
 pub mod run;

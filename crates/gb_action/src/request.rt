@@ -1,7 +1,7 @@
 //! The request to an action.
 
 use crate::change::InputChanges;
-use crate::output::OutputSnapshots;
+use crate::output_files::OutputSnapshots;
 use crate::snapshot::Snapshots;
 use crate::values::{Arguments, NamedValues};
 

@@ -5,7 +5,7 @@ ghost use Rattle.gb_action.specs.Replies.{Answers};
 ghost use Rattle.gb_action.specs.Shapes.{IsAsked, fit};
 
 use crate::actions::Actions;
-use crate::output::Form;
+use crate::output_files::Form;
 use crate::reply::{ActionFault, Reply};
 use crate::request::Request;
 use crate::shape::Fit;

@@ -5,7 +5,7 @@ ghost use Rattle.gb_action.specs.Shapes.{is_optional};
 ghost use Rattle.gb_action.specs.Shapes.{text_fits};
 ghost use Rattle.gb_action.specs.declared.shape.Parameter.TheVariants.{Optional, Required};
 
-use crate::output::Form;
+use crate::output_files::Form;
 use crate::values::Arguments;
 use gb_core::name::Name;
 use gb_core::place::is_place;

@@ -11,7 +11,7 @@ use Rattle.gb_build.specs.Found.{IsDeclared, WasFound, WasParsed, WereParsed}
 use Rattle.gb_build.specs.InvocationAsked.{BuildsDeclared}
 use Rattle.gb_build.specs.Registering.{setting_of}
 use Rattle.gb_build.specs.Scripts.{AreTexts, FolderDeclares, script_places, settings_place}
-use Rattle.gb_build.specs.Texts.{FileSays, TextSays}
+use Rattle.gb_build.specs.Texts.{FileMeans, TextMeans}
 use Rattle.gb_core.specs.Lists.{byte_order}
 use Rattle.gb_core.specs.Path.{is_task_path}
 use Rattle.gb_declare.specs.Registered.{registry_said}
@@ -22,23 +22,23 @@ use Rattle.gb_folder.specs.declared.folder.FolderFault.TheVariants as folders
 use Rattle.gb_folder.proofs.Free.{free_at}
 use Rattle.gb_history.specs.Places.{record_place}
 use Rattle.gb_history.specs.Record.{IsWellFormed, Record}
-use Rattle.gb_meaning.specs.Events.{HasPlan, has_failure, max_record}
-use Rattle.gb_meaning.specs.Every.{IsFromScratch}
-use Rattle.gb_meaning.specs.Execution.{dry_reports}
-use Rattle.gb_meaning.specs.Headline.{Agrees, contents_outside}
-use Rattle.gb_meaning.specs.Kinds.{Kinds}
-use Rattle.gb_meaning.specs.Memory.{Entry, Memory, recalled}
-use Rattle.gb_meaning.specs.Outline.{AreOutlines}
-use Rattle.gb_meaning.specs.Scratch.{add_task, cleared}
-use Rattle.gb_meaning.specs.TrueRecord.{AreCollisionFree, HoldsTrue, Stores, contents_of, outside, record_of}
-use Rattle.gb_meaning.specs.declared.events.Invocation.{Invocation}
-use Rattle.gb_meaning.proofs.Common.{none_some, some_same}
-use Rattle.gb_meaning.proofs.Lemmas.Clear.{Among, in_left, in_right}
-use Rattle.gb_meaning.proofs.Lemmas.Scratch.{AreDone, actives, ended_well, no_out, where_all}
-use Rattle.gb_meaning.proofs.Lemmas.Started.{outlines_started}
-use Rattle.gb_meaning.proofs.Lemmas.Success.{folder_where}
-use Rattle.gb_meaning.proofs.Lemmas.Truth.{recalled_made}
-use Rattle.gb_meaning.proofs.Lemmas.Whole.{done_from_scratch, each_started}
+use Rattle.gb_semantics.specs.Events.{HasPlan, has_failure, max_record}
+use Rattle.gb_semantics.specs.Every.{IsFromScratch}
+use Rattle.gb_semantics.specs.Execution.{dry_reports}
+use Rattle.gb_semantics.specs.Headline.{Agrees, contents_outside}
+use Rattle.gb_semantics.specs.Kinds.{Kinds}
+use Rattle.gb_semantics.specs.Memory.{Entry, Memory, recalled}
+use Rattle.gb_semantics.specs.Outline.{AreOutlines}
+use Rattle.gb_semantics.specs.Scratch.{add_task, cleared}
+use Rattle.gb_semantics.specs.TrueRecord.{AreCollisionFree, HoldsTrue, Stores, contents_of, outside, record_of}
+use Rattle.gb_semantics.specs.declared.events.Invocation.{Invocation}
+use Rattle.gb_semantics.proofs.Common.{none_some, some_same}
+use Rattle.gb_semantics.proofs.Lemmas.Clear.{Among, in_left, in_right}
+use Rattle.gb_semantics.proofs.Lemmas.Scratch.{AreDone, actives, ended_well, no_out, where_all}
+use Rattle.gb_semantics.proofs.Lemmas.Started.{outlines_started}
+use Rattle.gb_semantics.proofs.Lemmas.Success.{folder_where}
+use Rattle.gb_semantics.proofs.Lemmas.Truth.{recalled_made}
+use Rattle.gb_semantics.proofs.Lemmas.Whole.{done_from_scratch, each_started}
 use Rattle.gb_plan.specs.Graph.{Plan, Registry, Request, order}
 use Rattle.gb_plan.specs.Ready.{Rows}
 use Rattle.gb_plan.specs.Task.{Path, has_path}
@@ -54,7 +54,7 @@ use Rattle.gb_registry.specs.Tables.{Tables}
 use Rattle.gb_report.specs.declared.report.Options.{Options}
 use Rattle.gb_report.specs.declared.report.Report.{Report}
 use Rattle.gb_report.specs.declared.report.TaskReport.{TaskReport}
-use Rattle.gb_script.specs.Script.{Says, SaysAsSettings}
+use Rattle.gb_script.specs.Script.{HasMeaning, MeansAsSettings}
 use Rattle.gb_script.specs.declared.fault.ScriptFault.{ScriptFault}
 use Rattle.gb_script.specs.declared.script.Statement.{Statement}
 use Rattle.gb_answers.proofs.Back.{AreAnswersOf, Shown, back_unchanged, kept_answers, start_sound}
@@ -92,24 +92,24 @@ module _ {F : Type 0} (device : Device F) (leaves : Tearing) (Shows : F → Cont
       let exists : file_at contents.files place ≡ Some bytes = ap (λ (c : Contents). file_at c.files place) from.2.1 ∙ from.2.0.0 in
       (exists, free_at contents.files place bytes (are.sound new contents shows).folder exists)
 
-  text_says : {X : Type 0} (SaysAs : Bytes → Result (List X) ScriptFault → Type 0) (place : Place) (said : List X)
-      → WasParsed device SaysAs old new place said → TextSays SaysAs contents.files place (Ok said)
-  text_says SaysAs place said parsed =
+  text_says : {X : Type 0} (MeansAs : Bytes → Result (List X) ScriptFault → Type 0) (place : Place) (said : List X)
+      → WasParsed device MeansAs old new place said → TextMeans MeansAs contents.files place (Ok said)
+  text_says MeansAs place said parsed =
       let found = found_in place parsed.0 parsed.1 in
-      inr (found.1, subst (λ o. FileSays SaysAs place o (Ok said)) (sym found.0) parsed.2)
+      inr (found.1, subst (λ o. FileMeans MeansAs place o (Ok said)) (sym found.0) parsed.2)
 
   texts_say : (places : List Place) (texts : List (List Statement)) → WereParsed device old new places texts → AreTexts contents.files places texts
   texts_say [] [] parsed = tt
   texts_say [] (text ∷ texts) parsed = absurd parsed
   texts_say (place ∷ places) [] parsed = absurd parsed
-  texts_say (place ∷ places) (text ∷ texts) parsed = (text_says Says place text parsed.0, texts_say places texts parsed.1)
+  texts_say (place ∷ places) (text ∷ texts) parsed = (text_says HasMeaning place text parsed.0, texts_say places texts parsed.1)
 
   -- what the scripts were found to declare is what those of the contents declare
   pub scripts_found : {M A Z S T : Type 0} (tables : Tables M A Z S T) (given : List (List ℕ × List ℕ)) (source : Source)
       → IsDeclared device tables given old new source → FolderDeclares tables contents.files given (Ok source)
   scripts_found tables given source declared = (
     declared.settings,
-    (declared.settings, text_says SaysAsSettings settings_place declared.settings declared.settings_parsed, (declared.settings_pass, refl)),
+    (declared.settings, text_says MeansAsSettings settings_place declared.settings declared.settings_parsed, (declared.settings_pass, refl)),
     (
       declared.texts,
       texts_say (script_places (projects_of declared.settings)) declared.texts declared.parsed,

@@ -9,16 +9,16 @@ use Rattle.gb_folder.specs.Semantics.{AnswersAll}
 use Rattle.gb_action.specs.Changes.{Changes}
 use Rattle.gb_action.specs.Files.{Trees}
 use Rattle.gb_action.specs.Meanings.{Meanings}
-use Rattle.gb_action.specs.declared.output.OutputFiles.{OutputFiles}
+use Rattle.gb_action.specs.declared.output_files.OutputFiles.{OutputFiles}
 use Rattle.gb_plan.specs.Ready.{Rows}
 use Rattle.gb_plan.specs.Task.{Text, is_output_of}
 use Rattle.gb_plan.specs.declared.task.TaskDeclaration.{TaskDeclaration as Task}
-use Rattle.gb_meaning.specs.Headline.{Agrees}
-use Rattle.gb_meaning.specs.Kinds.{Kinds}
-use Rattle.gb_meaning.specs.Made.{blocked_in, made_of, rest_of, with_outputs}
-use Rattle.gb_meaning.specs.Tree.{trees_of}
-use Rattle.gb_meaning.specs.TrueRecord.{outside}
-use Rattle.gb_meaning.proofs.Lemmas.Files.{sorted-where}
+use Rattle.gb_semantics.specs.Headline.{Agrees}
+use Rattle.gb_semantics.specs.Kinds.{Kinds}
+use Rattle.gb_semantics.specs.Made.{blocked_in, made_of, rest_of, with_outputs}
+use Rattle.gb_semantics.specs.Tree.{trees_of}
+use Rattle.gb_semantics.specs.TrueRecord.{outside}
+use Rattle.gb_semantics.proofs.Lemmas.Files.{sorted-where}
 use Rattle.gb_run.specs.AskingChanges.{GoesOn, IsFitting, observed_of}
 use Rattle.gb_run.specs.Doing.{Ending}
 use Rattle.gb_run.proofs.Changed.{changes_of}

@@ -6,15 +6,15 @@ use Rattle.gb_action.specs.Meanings.{Meanings}
 use Rattle.gb_exec.specs.Asking.{ExecutionsRequest}
 use Rattle.gb_folder.specs.Files.{Bytes, Contents, Files, Place, files_where, is_empty, is_own}
 use Rattle.gb_history.specs.Record.{Record}
-use Rattle.gb_meaning.specs.Headline.{contents_outside}
-use Rattle.gb_meaning.specs.Kinds.{Kinds}
-use Rattle.gb_meaning.specs.Label.{Moment}
-use Rattle.gb_meaning.specs.Outline.{AnswersAlone, AreOutlines, moment_by}
-use Rattle.gb_meaning.specs.TrueRecord.{AreCollisionFree, contents_of, outside}
-use Rattle.gb_meaning.proofs.Lemmas.Clear.{Among, existed, in_one, later_separate, places_of, separate_of_fewer}
-use Rattle.gb_meaning.proofs.Lemmas.Files.{left_of, right_of}
-use Rattle.gb_meaning.proofs.Lemmas.Scratch.{AreDone, ended_well}
-use Rattle.gb_meaning.proofs.Lemmas.Success.{folder_where}
+use Rattle.gb_semantics.specs.Headline.{contents_outside}
+use Rattle.gb_semantics.specs.Kinds.{Kinds}
+use Rattle.gb_semantics.specs.Label.{Moment}
+use Rattle.gb_semantics.specs.Outline.{AnswersAlone, AreOutlines, moment_by}
+use Rattle.gb_semantics.specs.TrueRecord.{AreCollisionFree, contents_of, outside}
+use Rattle.gb_semantics.proofs.Lemmas.Clear.{Among, existed, in_one, later_separate, places_of, separate_of_fewer}
+use Rattle.gb_semantics.proofs.Lemmas.Files.{left_of, right_of}
+use Rattle.gb_semantics.proofs.Lemmas.Scratch.{AreDone, ended_well}
+use Rattle.gb_semantics.proofs.Lemmas.Success.{folder_where}
 use Rattle.gb_plan.specs.Graph.{Plan, some_overlap}
 use Rattle.gb_plan.specs.Ready.{Rows}
 use Rattle.gb_plan.specs.Task.{IsShaped, Path, is_output_of, output_places}

@@ -9,16 +9,16 @@ use Rattle.gb_folder.specs.Semantics.{AnswersAll}
 use Rattle.gb_report.specs.declared.fault.Fault.{Fault}
 use Rattle.gb_action.specs.Changes.{Changes}
 use Rattle.gb_action.specs.Files.{Trees}
-use Rattle.gb_action.specs.declared.output.OutputFiles.{OutputFiles}
+use Rattle.gb_action.specs.declared.output_files.OutputFiles.{OutputFiles}
 use Rattle.gb_plan.specs.Task.{Text, is_output_of}
 use Rattle.gb_plan.specs.declared.task.Output.{Output}
 use Rattle.gb_plan.specs.declared.task.TaskDeclaration.{TaskDeclaration as Task}
-use Rattle.gb_meaning.specs.Kinds.{Kinds}
-use Rattle.gb_meaning.specs.Made.{blocked_in, made_of, rest_of, with_outputs}
-use Rattle.gb_meaning.specs.Memory.{output_files}
-use Rattle.gb_meaning.specs.Tree.{trees_of}
-use Rattle.gb_meaning.proofs.Lemmas.Ending.{ended_is_made, none_blocked}
-use Rattle.gb_meaning.proofs.Lemmas.Making.{made_of_is_right}
+use Rattle.gb_semantics.specs.Kinds.{Kinds}
+use Rattle.gb_semantics.specs.Made.{blocked_in, made_of, rest_of, with_outputs}
+use Rattle.gb_semantics.specs.Memory.{output_files}
+use Rattle.gb_semantics.specs.Tree.{trees_of}
+use Rattle.gb_semantics.proofs.Lemmas.Ending.{ended_is_made, none_blocked}
+use Rattle.gb_semantics.proofs.Lemmas.Making.{made_of_is_right}
 use Rattle.gb_records.proofs.Placed.{made_placed}
 use Rattle.gb_run.specs.AskingChanges.{GoesOn, IsFitting, observed_of}
 use Rattle.gb_run.specs.RunInput.{EndsWell, run_input, whole_run}

@@ -13,9 +13,9 @@ use Rattle.gb_report.specs.declared.fault.Fault.{Fault}
 use Rattle.gb_history.specs.Places.{record_place}
 use Rattle.gb_history.specs.Record.{Record}
 use Rattle.gb_history.specs.Text.{record_text}
-use Rattle.gb_meaning.specs.Events.{max_record}
-use Rattle.gb_meaning.specs.Made.{rest_of}
-use Rattle.gb_meaning.specs.TrueRecord.{outside}
+use Rattle.gb_semantics.specs.Events.{max_record}
+use Rattle.gb_semantics.specs.Made.{rest_of}
+use Rattle.gb_semantics.specs.TrueRecord.{outside}
 use Rattle.gb_plan.specs.Task.{Path, Text, is_output_of}
 use Rattle.gb_plan.specs.declared.task.Output.{Output}
 use Rattle.gb_plan.specs.declared.task.TaskDeclaration.{TaskDeclaration as Task}

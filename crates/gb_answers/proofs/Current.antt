@@ -7,18 +7,18 @@ use Rattle.std.proofs.Common.{refl, sym, ap, ◌∙◌, true≢false}
 use Rattle.gb_core.specs.Lists.{byte_order}
 use Rattle.gb_folder.specs.Files.{Bytes, Files, IsFolder, Place, are_placed, file_at, is_own}
 use Rattle.gb_action.specs.Files.{Trees}
-use Rattle.gb_action.specs.declared.output.OutputFiles.{OutputFiles}
+use Rattle.gb_action.specs.declared.output_files.OutputFiles.{OutputFiles}
 use Rattle.gb_plan.specs.Task.{is_output_of}
 use Rattle.gb_plan.specs.declared.task.Output.{Output}
 use Rattle.gb_plan.specs.declared.task.TaskDeclaration.{TaskDeclaration as Task}
-use Rattle.gb_meaning.specs.Kinds.{Kinds}
-use Rattle.gb_meaning.specs.Made.{made_of}
-use Rattle.gb_meaning.specs.Memory.{Memory, entry_of, output_files, recalled}
-use Rattle.gb_meaning.specs.Tree.{trees_of}
-use Rattle.gb_meaning.proofs.Lemmas.Files.{at-where, same_files, sorted-where}
-use Rattle.gb_meaning.proofs.Lemmas.Making.{IsRight, made_of_is_right}
-use Rattle.gb_meaning.proofs.Lemmas.Truth.{trusted_in}
-use Rattle.gb_meaning.proofs.Lemmas.Worked.{Shows}
+use Rattle.gb_semantics.specs.Kinds.{Kinds}
+use Rattle.gb_semantics.specs.Made.{made_of}
+use Rattle.gb_semantics.specs.Memory.{Memory, entry_of, output_files, recalled}
+use Rattle.gb_semantics.specs.Tree.{trees_of}
+use Rattle.gb_semantics.proofs.Lemmas.Files.{at-where, same_files, sorted-where}
+use Rattle.gb_semantics.proofs.Lemmas.Making.{IsRight, made_of_is_right}
+use Rattle.gb_semantics.proofs.Lemmas.Truth.{trusted_in}
+use Rattle.gb_semantics.proofs.Lemmas.Worked.{Shows}
 use Rattle.gb_records.proofs.Placed.{made_placed}
 use Rattle.gb_label.specs.Reading.{observed_of}
 use Rattle.gb_run.specs.Named.{existing, put}

@@ -19,15 +19,15 @@ use Rattle.gb_plan.specs.declared.task.Action.{Action}
 use Rattle.gb_plan.specs.declared.task.Output.{Output}
 use Rattle.gb_plan.specs.declared.task.TaskDeclaration.{TaskDeclaration as Task}
 use Rattle.gb_plan.proofs.Tests.{neither, none_left, none_right, not_true}
-use Rattle.gb_meaning.specs.Headline.{Agrees}
-use Rattle.gb_meaning.specs.Kinds.{Kinds, kind_of}
-use Rattle.gb_meaning.specs.Made.{blocked_in, made_of, put_over, put_result, rest_of, with_outputs}
-use Rattle.gb_meaning.specs.Tree.{trees_of}
-use Rattle.gb_meaning.specs.TrueRecord.{outside}
-use Rattle.gb_meaning.proofs.Lemmas.Ending.{ended_is_made, none_blocked}
-use Rattle.gb_meaning.proofs.Lemmas.Files.{at-put_over, at-where, or_else, same_files, sorted-put_over, sorted-where}
-use Rattle.gb_meaning.proofs.Lemmas.Making.{IsRight, made_of_is_right}
-use Rattle.gb_meaning.proofs.Lemmas.Truth.{fewer_block}
+use Rattle.gb_semantics.specs.Headline.{Agrees}
+use Rattle.gb_semantics.specs.Kinds.{Kinds, kind_of}
+use Rattle.gb_semantics.specs.Made.{blocked_in, made_of, put_over, put_result, rest_of, with_outputs}
+use Rattle.gb_semantics.specs.Tree.{trees_of}
+use Rattle.gb_semantics.specs.TrueRecord.{outside}
+use Rattle.gb_semantics.proofs.Lemmas.Ending.{ended_is_made, none_blocked}
+use Rattle.gb_semantics.proofs.Lemmas.Files.{at-put_over, at-where, or_else, same_files, sorted-put_over, sorted-where}
+use Rattle.gb_semantics.proofs.Lemmas.Making.{IsRight, made_of_is_right}
+use Rattle.gb_semantics.proofs.Lemmas.Truth.{fewer_block}
 use Rattle.gb_run.specs.RunInput.{EndsWell, run_input, whole_run}
 use Rattle.gb_run.specs.Doing.{Ending}
 use Rattle.gb_run.specs.Failing.{InFull}

@@ -3,11 +3,11 @@ use Rattle.std.specs.Prelude.{◌≡◌, ◌++◌, List, [], ◌∷◌, Option, 
 use Rattle.sha2.specs.Sha256.{sha256}
 use Rattle.gb_folder.specs.Files.{Bytes, Contents, DiffersOnlyAt}
 use Rattle.gb_history.specs.Record.{IsWellFormed, Record}
-use Rattle.gb_meaning.specs.Headline.{contents_outside}
-use Rattle.gb_meaning.specs.Kinds.{Kinds}
-use Rattle.gb_meaning.specs.Memory.{Entry, World}
-use Rattle.gb_meaning.specs.TrueRecord.{AreCollisionFree, IsMade, contents_of, outside}
-use Rattle.gb_meaning.proofs.Lemmas.Worked.{Did}
+use Rattle.gb_semantics.specs.Headline.{contents_outside}
+use Rattle.gb_semantics.specs.Kinds.{Kinds}
+use Rattle.gb_semantics.specs.Memory.{Entry, World}
+use Rattle.gb_semantics.specs.TrueRecord.{AreCollisionFree, IsMade, contents_of, outside}
+use Rattle.gb_semantics.proofs.Lemmas.Worked.{Did}
 use Rattle.gb_plan.specs.Task.{is_output_of}
 use Rattle.gb_plan.specs.declared.plan.Planned.{Planned}
 use Rattle.gb_plan.specs.declared.task.TaskDeclaration.{TaskDeclaration as Task}

@@ -6,7 +6,7 @@ use Rattle.std.proofs.Common.{refl, sym, ap, subst, ◌∙◌, inl, inr, append_
 use Rattle.std.proofs.lemmas.List.{append-nil}
 use Rattle.std.proofs.lemmas.List.Elements.{Contains-append_left, Contains-push}
 use Rattle.gb_action.specs.Files.{Trees}
-use Rattle.gb_action.specs.declared.output.OutputFiles.{OutputFiles}
+use Rattle.gb_action.specs.declared.output_files.OutputFiles.{OutputFiles}
 use Rattle.gb_folder.specs.Answers.{IsOnWay, WereRead}
 use Rattle.gb_folder.specs.Calls.{Call, Reads, IsPermitted, IsReachedBy, Permit, Requests, fault_of, none, then, Device}
 use Rattle.gb_folder.specs.Files.{Bytes, Files, Place}
@@ -14,7 +14,7 @@ use Rattle.gb_folder.specs.Limits.{max_file}
 use Rattle.gb_folder.specs.declared.folder.FolderFault.TheVariants as folders
 use Rattle.gb_label.specs.ReadingAnswered.{AreInputsRead, AreOutputsRead, IsInputRead, IsOutputRead}
 use Rattle.gb_logged.specs.Logged.{LogsCalls}
-use Rattle.gb_meaning.specs.TrueRecord.{contents_in}
+use Rattle.gb_semantics.specs.TrueRecord.{contents_in}
 use Rattle.gb_plan.specs.declared.task.FileProperty.{FileProperty}
 use Rattle.gb_plan.specs.declared.task.Output.{Output}
 use Rattle.gb_plan.specs.declared.task.TaskDeclaration.{TaskDeclaration as Task}

@@ -4,7 +4,7 @@ use Rattle.gb_answers.specs.Scratch.{AnsweredSuccessIsFromScratch, LeavesFromScr
 use Rattle.gb_build.specs.InvocationAsked.{InvocationRequests}
 use Rattle.gb_folder.specs.Calls.{Call, Device}
 use Rattle.gb_logged.specs.Logged.{LogsCalls}
-use Rattle.gb_meaning.specs.declared.events.Invocation.{Invocation}
+use Rattle.gb_semantics.specs.declared.events.Invocation.{Invocation}
 use Rattle.gb_registry.specs.Tables.{Tables}
 use Rattle.gb_report.specs.declared.fault.Fault.{Fault}
 use Rattle.gb_report.specs.declared.report.Report.{Report}

@@ -9,19 +9,19 @@ use Rattle.gb_core.specs.Lists.{byte_order}
 use Rattle.gb_core.specs.Place.{beneath, is_place}
 use Rattle.gb_action.specs.Changes.{Changes}
 use Rattle.gb_action.specs.Files.{Trees}
-use Rattle.gb_action.specs.declared.output.OutputFiles.{OutputFiles}
+use Rattle.gb_action.specs.declared.output_files.OutputFiles.{OutputFiles}
 use Rattle.gb_action.specs.declared.reply.Reply.{Reply}
 use Rattle.gb_action.specs.declared.reply.Written.{Written}
 use Rattle.gb_folder.specs.Calls.{Call, Writes}
 use Rattle.gb_folder.specs.Files.{Bytes, Files, IsFolder, Place, are_placed, file_at}
 use Rattle.gb_folder.specs.Limits.{max_file}
 use Rattle.gb_folder.specs.Semantics.{Answer}
-use Rattle.gb_meaning.specs.Kinds.{Kinds, kind_of}
-use Rattle.gb_meaning.specs.Made.{act, made_of, placed, put_over, put_result, step_faults}
-use Rattle.gb_meaning.specs.TrueRecord.{contents_in}
-use Rattle.gb_meaning.proofs.Lemmas.Files.{left_of, or_else, right_of, same_place}
-use Rattle.gb_meaning.proofs.Lemmas.Making.{made_of_is_right}
-use Rattle.gb_meaning.proofs.Lemmas.Reading.{each}
+use Rattle.gb_semantics.specs.Kinds.{Kinds, kind_of}
+use Rattle.gb_semantics.specs.Made.{act, made_of, placed, put_over, put_result, step_faults}
+use Rattle.gb_semantics.specs.TrueRecord.{contents_in}
+use Rattle.gb_semantics.proofs.Lemmas.Files.{left_of, or_else, right_of, same_place}
+use Rattle.gb_semantics.proofs.Lemmas.Making.{made_of_is_right}
+use Rattle.gb_semantics.proofs.Lemmas.Reading.{each}
 use Rattle.gb_plan.specs.Task.{Text}
 use Rattle.gb_plan.specs.declared.task.Action.{Action}
 use Rattle.gb_plan.specs.declared.task.Output.{Output}

@@ -4,7 +4,7 @@ use Rattle.std.specs.List.{AllByRecursion, cons_option}
 use Rattle.std.proofs.Common.{refl, sym, subst, ap}
 use Rattle.gb_build.specs.Found.{IsDeclared, WereParsed}
 use Rattle.gb_build.specs.Scripts.{script_places}
-use Rattle.gb_build.specs.Texts.{FileSays}
+use Rattle.gb_build.specs.Texts.{FileMeans}
 use Rattle.gb_core.proofs.Parts.{parts_make}
 use Rattle.gb_core.specs.Path.{is_project_path, is_task_path}
 use Rattle.gb_folder.specs.Files.{Bytes, Place}
@@ -16,7 +16,7 @@ use Rattle.gb_registry.specs.Source.{Source}
 use Rattle.gb_registry.specs.Tables.{Tables}
 use Rattle.gb_report.specs.declared.fault.Fault.{Fault}
 use Rattle.gb_script.specs.Fits.{IsScript, IsStatement}
-use Rattle.gb_script.specs.Script.{Says}
+use Rattle.gb_script.specs.Script.{HasMeaning}
 use Rattle.gb_script.specs.declared.script.Statement.{Statement}
 use Rattle.gb_script.specs.declared.script.Statement.TheVariants as statements
 use Rattle.gb_folder.specs.Calls.{Device}
@@ -68,7 +68,7 @@ abbrev text_of : Result (List Statement) Fault → List Statement
 text_of (Ok text) = text
 text_of (Err fault) = []
 
-file_well : (place : Place) (found : Option Bytes) (text : List Statement) → FileSays Says place found (Ok text) → IsScript text
+file_well : (place : Place) (found : Option Bytes) (text : List Statement) → FileMeans HasMeaning place found (Ok text) → IsScript text
 file_well place None text says = let none : text ≡ [] = ap text_of says in subst IsScript (sym none) tt
 file_well place (Some bytes) text says = says.is
 

@@ -10,8 +10,8 @@ use Rattle.gb_core.specs.Path.{is_task_path}
 use Rattle.gb_core.specs.Place.{overlaps}
 use Rattle.gb_declare.specs.Registered.{declaration_of, registry_said}
 use Rattle.gb_folder.specs.Files.{Place}
-use Rattle.gb_meaning.specs.declared.events.Invocation.{Invocation}
-use Rattle.gb_meaning.proofs.Lemmas.Clear.{places_of}
+use Rattle.gb_semantics.specs.declared.events.Invocation.{Invocation}
+use Rattle.gb_semantics.proofs.Lemmas.Clear.{places_of}
 use Rattle.gb_plan.specs.Graph.{IsRegistry, Plan, Registry, Request, declaration_at, order, some_overlap}
 use Rattle.gb_plan.specs.Ready.{Rows}
 use Rattle.gb_plan.specs.Task.{IsShaped, Path, output_places}

@@ -2,7 +2,7 @@
 use Rattle.std.specs.Prelude.{◌≡◌, cond, false, List, [], ◌∷◌, map}
 use Rattle.std.specs.List.{AllZip, list_any}
 use Rattle.std.proofs.Common.{refl, sym, ap, ap₂, ◌∙◌, inl, inr}
-use Rattle.gb_action.specs.declared.output.OutputFiles.{OutputFiles}
+use Rattle.gb_action.specs.declared.output_files.OutputFiles.{OutputFiles}
 use Rattle.gb_folder.specs.Files.{Contents, Place, Tearing, is_own, places_under}
 use Rattle.gb_label.proofs.Readings.{output_is}
 use Rattle.gb_label.specs.Reading.{observed_of as observed_once}

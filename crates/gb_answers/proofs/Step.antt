@@ -10,7 +10,7 @@ use Rattle.gb_core.specs.Place.{is_under}
 use Rattle.gb_action.specs.Changes.{Changes}
 use Rattle.gb_action.specs.Files.{Trees}
 use Rattle.gb_action.specs.Meanings.{Meanings, WritesItsOutput}
-use Rattle.gb_action.specs.declared.output.OutputFiles.{OutputFiles}
+use Rattle.gb_action.specs.declared.output_files.OutputFiles.{OutputFiles}
 use Rattle.gb_folder.specs.Calls.{Call, Requests, no_change, Device}
 use Rattle.gb_folder.specs.Each.{OrStops}
 use Rattle.gb_folder.specs.Files.{Bytes, Contents, DiffersOnlyAt, Files, IsFolder, Place, Tearing, are_placed, file_at, files_where, is_empty}
@@ -18,20 +18,20 @@ use Rattle.gb_folder.specs.Semantics.{AnswersAll}
 use Rattle.gb_folder.proofs.Sound.{placed_where}
 use Rattle.gb_history.specs.Record.{Record}
 use Rattle.gb_label.specs.Reading.{observed_of}
-use Rattle.gb_meaning.specs.Headline.{Agrees, contents_outside}
-use Rattle.gb_meaning.specs.Kinds.{Kinds}
-use Rattle.gb_meaning.specs.Label.{CannotRead, Early, HasNoActions, HasNoSource, Moment, has_one_writer, some_outcome}
-use Rattle.gb_meaning.specs.Made.{blocked_in, made, made_of, rest_of, with_outputs}
-use Rattle.gb_meaning.specs.Memory.{World, output_files}
-use Rattle.gb_meaning.specs.Outline.{AnswersAlone, idle_outcome}
-use Rattle.gb_meaning.specs.Tree.{has_no_source, input_faults, trees_of}
-use Rattle.gb_meaning.specs.TrueRecord.{contents_in, contents_of, outside}
-use Rattle.gb_meaning.proofs.Lemmas.Clear.{Among, either, in_left, in_one, in_right, right, separate_of_fewer}
-use Rattle.gb_meaning.proofs.Lemmas.Files.{at-put_over, at-where, or_else, same_files, sorted-put_over, sorted-where}
-use Rattle.gb_meaning.proofs.Lemmas.Making.{IsRight, made_of_is_right}
-use Rattle.gb_meaning.proofs.Lemmas.Observed.{entry_observed}
-use Rattle.gb_meaning.proofs.Lemmas.Success.{folder_where}
-use Rattle.gb_meaning.proofs.Lemmas.Worked.{Did, Shows as MadeShows, idle, skipped, worked}
+use Rattle.gb_semantics.specs.Headline.{Agrees, contents_outside}
+use Rattle.gb_semantics.specs.Kinds.{Kinds}
+use Rattle.gb_semantics.specs.Label.{CannotRead, Early, HasNoActions, HasNoSource, Moment, has_one_writer, some_outcome}
+use Rattle.gb_semantics.specs.Made.{blocked_in, made, made_of, rest_of, with_outputs}
+use Rattle.gb_semantics.specs.Memory.{World, output_files}
+use Rattle.gb_semantics.specs.Outline.{AnswersAlone, idle_outcome}
+use Rattle.gb_semantics.specs.Tree.{has_no_source, input_faults, trees_of}
+use Rattle.gb_semantics.specs.TrueRecord.{contents_in, contents_of, outside}
+use Rattle.gb_semantics.proofs.Lemmas.Clear.{Among, either, in_left, in_one, in_right, right, separate_of_fewer}
+use Rattle.gb_semantics.proofs.Lemmas.Files.{at-put_over, at-where, or_else, same_files, sorted-put_over, sorted-where}
+use Rattle.gb_semantics.proofs.Lemmas.Making.{IsRight, made_of_is_right}
+use Rattle.gb_semantics.proofs.Lemmas.Observed.{entry_observed}
+use Rattle.gb_semantics.proofs.Lemmas.Success.{folder_where}
+use Rattle.gb_semantics.proofs.Lemmas.Worked.{Did, Shows as MadeShows, idle, skipped, worked}
 use Rattle.gb_plan.specs.Graph.{Plan, needs_in, some_overlap}
 use Rattle.gb_plan.specs.Ready.{Rows}
 use Rattle.gb_plan.specs.Task.{IsShaped, Text, has_path, is_output_of, output_places}

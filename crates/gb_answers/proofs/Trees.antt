@@ -11,7 +11,7 @@ use Rattle.gb_label.specs.Answered.{WasSourced, WasSourceless}
 use Rattle.gb_label.specs.Looking.{gives_no_source, lacks_source}
 use Rattle.gb_label.specs.Reading.{Read}
 use Rattle.gb_label.specs.ReadingAnswered.{AreEntriesOf, AreInputsAnswered, AreInputsRead, IsInputAnswered, IsInputRead}
-use Rattle.gb_meaning.specs.Tree.{has_no_source, input_faults, reported_of_tree, tree_faults, tree_of, trees_of}
+use Rattle.gb_semantics.specs.Tree.{has_no_source, input_faults, reported_of_tree, tree_faults, tree_of, trees_of}
 use Rattle.gb_plan.specs.Task.{given_files}
 use Rattle.gb_plan.specs.declared.task.FileProperty.{FileProperty}
 use Rattle.gb_plan.specs.declared.task.TaskDeclaration.{TaskDeclaration as Task}

@@ -9,7 +9,7 @@ use Rattle.sha2.specs.Sha256.{sha256}
 use Rattle.gb_action.specs.Changes.{Changes}
 use Rattle.gb_action.specs.Files.{Trees}
 use Rattle.gb_action.specs.Meanings.{Meanings, WritesItsOutput}
-use Rattle.gb_action.specs.declared.output.OutputFiles.{OutputFiles}
+use Rattle.gb_action.specs.declared.output_files.OutputFiles.{OutputFiles}
 use Rattle.gb_build.specs.InvocationAsked.{BuildsDeclared, InvocationRequests}
 use Rattle.gb_build.specs.Registering.{setting_of}
 use Rattle.gb_core.specs.Path.{is_task_path}
@@ -23,16 +23,16 @@ use Rattle.gb_history.specs.Places.{record_place}
 use Rattle.gb_history.specs.Record.{IsWellFormed, Record}
 use Rattle.gb_history.specs.Text.{record_text}
 use Rattle.gb_logged.specs.Logged.{LogsCalls}
-use Rattle.gb_meaning.specs.Events.{has_failure, max_record}
-use Rattle.gb_meaning.specs.Every.{IsFromScratch}
-use Rattle.gb_meaning.specs.Execution.{dry_reports}
-use Rattle.gb_meaning.specs.Headline.{Agrees, contents_outside}
-use Rattle.gb_meaning.specs.Kinds.{Kinds}
-use Rattle.gb_meaning.specs.Label.{has_one_writer}
-use Rattle.gb_meaning.specs.TrueRecord.{AreCollisionFree, contents_in, contents_of}
-use Rattle.gb_meaning.specs.declared.events.Invocation.{Invocation}
-use Rattle.gb_meaning.proofs.Lemmas.Clear.{found, in_left, in_right, listed}
-use Rattle.gb_meaning.proofs.Lemmas.Reading.{all_map, each}
+use Rattle.gb_semantics.specs.Events.{has_failure, max_record}
+use Rattle.gb_semantics.specs.Every.{IsFromScratch}
+use Rattle.gb_semantics.specs.Execution.{dry_reports}
+use Rattle.gb_semantics.specs.Headline.{Agrees, contents_outside}
+use Rattle.gb_semantics.specs.Kinds.{Kinds}
+use Rattle.gb_semantics.specs.Label.{has_one_writer}
+use Rattle.gb_semantics.specs.TrueRecord.{AreCollisionFree, contents_in, contents_of}
+use Rattle.gb_semantics.specs.declared.events.Invocation.{Invocation}
+use Rattle.gb_semantics.proofs.Lemmas.Clear.{found, in_left, in_right, listed}
+use Rattle.gb_semantics.proofs.Lemmas.Reading.{all_map, each}
 use Rattle.gb_plan.specs.Graph.{order, some_overlap}
 use Rattle.gb_plan.specs.Ready.{Rows}
 use Rattle.gb_plan.specs.Task.{Path, Text, has_path, is_output_of, output_places}

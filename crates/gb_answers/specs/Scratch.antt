@@ -6,13 +6,13 @@ use Rattle.gb_build.specs.InvocationAsked.{InvocationRequests}
 use Rattle.gb_build.specs.Registering.{setting_of}
 use Rattle.gb_folder.specs.Calls.{Call, Device}
 use Rattle.gb_folder.specs.Files.{Contents, Tearing}
-use Rattle.gb_meaning.specs.Events.{Setting, has_failure}
-use Rattle.gb_meaning.specs.Every.{IsFromScratch}
-use Rattle.gb_meaning.specs.Headline.{Agrees, HoldsMemory, contents_outside}
-use Rattle.gb_meaning.specs.Kinds.{Kinds}
-use Rattle.gb_meaning.specs.Memory.{Memory}
-use Rattle.gb_meaning.specs.TrueRecord.{AreCollisionFree, contents_of}
-use Rattle.gb_meaning.specs.declared.events.Invocation.{Invocation}
+use Rattle.gb_semantics.specs.Events.{Setting, has_failure}
+use Rattle.gb_semantics.specs.Every.{IsFromScratch}
+use Rattle.gb_semantics.specs.Headline.{Agrees, HoldsMemory, contents_outside}
+use Rattle.gb_semantics.specs.Kinds.{Kinds}
+use Rattle.gb_semantics.specs.Memory.{Memory}
+use Rattle.gb_semantics.specs.TrueRecord.{AreCollisionFree, contents_of}
+use Rattle.gb_semantics.specs.declared.events.Invocation.{Invocation}
 use Rattle.gb_registry.specs.Tables.{Tables}
 use Rattle.gb_report.specs.declared.report.Report.{Report}
 use Rattle.std.specs.List.{flat_map}

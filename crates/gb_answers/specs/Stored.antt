@@ -4,7 +4,7 @@ use Rattle.std.specs.Prelude.{IsTrue, ⊤}
 use Rattle.std.specs.List.{AllByRecursion, AllZip, flat_map}
 use Rattle.sha2.specs.Sha256.{sha256}
 use Rattle.gb_action.specs.Files.{Trees}
-use Rattle.gb_action.specs.declared.output.OutputFiles.{OutputFiles}
+use Rattle.gb_action.specs.declared.output_files.OutputFiles.{OutputFiles}
 use Rattle.gb_build.specs.InvocationAsked.{InvocationRequests}
 use Rattle.gb_build.specs.Registering.{setting_of}
 use Rattle.gb_core.specs.Path.{is_task_path}
@@ -15,13 +15,13 @@ use Rattle.gb_history.specs.Places.{record_place}
 use Rattle.gb_history.specs.Record.{Record}
 use Rattle.gb_label.specs.ReadingAnswered.{AreInputsRead, AreOutputsRead}
 use Rattle.gb_logged.specs.Logged.{LogsCalls}
-use Rattle.gb_meaning.specs.Events.{has_failure, max_record}
-use Rattle.gb_meaning.specs.Every.{IsFromScratch}
-use Rattle.gb_meaning.specs.Headline.{Agrees, contents_outside}
-use Rattle.gb_meaning.specs.Kinds.{Kinds}
-use Rattle.gb_meaning.specs.Memory.{Entry}
-use Rattle.gb_meaning.specs.TrueRecord.{AreCollisionFree, IsMade, contents_of}
-use Rattle.gb_meaning.specs.declared.events.Invocation.{Invocation}
+use Rattle.gb_semantics.specs.Events.{has_failure, max_record}
+use Rattle.gb_semantics.specs.Every.{IsFromScratch}
+use Rattle.gb_semantics.specs.Headline.{Agrees, contents_outside}
+use Rattle.gb_semantics.specs.Kinds.{Kinds}
+use Rattle.gb_semantics.specs.Memory.{Entry}
+use Rattle.gb_semantics.specs.TrueRecord.{AreCollisionFree, IsMade, contents_of}
+use Rattle.gb_semantics.specs.declared.events.Invocation.{Invocation}
 use Rattle.gb_plan.specs.Task.{Path, given_files, given_outputs}
 use Rattle.gb_plan.specs.declared.plan.Planned.{Planned}
 use Rattle.gb_plan.specs.declared.task.TaskDeclaration.{TaskDeclaration as Task}

@@ -3,7 +3,7 @@
 //! The theorem about known contents needs contents that answer each call. But of any folder that
 //! keeps its calls (`LogsCalls`), as one on a disk, the contracts say which calls a build made, and
 //! with which bytes, given their answers. This crate has what follows, in two laws over what `invoke`
-//! does (`requests` of its clause `does`). No body is changed for them.
+//! does (`requests` of its clause `does`).
 //!
 //! - `answered_success_is_from_scratch`: if contents that hold true records answer all calls that
 //!   the folder keeps of a build, no two contents share a digest, and no task failed, then in these
@@ -35,6 +35,6 @@
 //! of `invoke` says so of contents that answer its calls.)
 #![tactic(auto)]
 
+pub mod disk_calls;
 pub mod laws;
 pub mod logged_build;
-pub mod on_disk;

@@ -2,7 +2,7 @@
 ghost use Rattle.std.specs.Prelude.{IfOk};
 ghost use Rattle.gb_logged.specs.Logged.{log};
 ghost use Rattle.gb_registry.specs.Tables.{tables_of};
-ghost use Rattle.gb_meaning.specs.Kinds.{Kinds};
+ghost use Rattle.gb_semantics.specs.Kinds.{Kinds};
 ghost use Rattle.gb_answers.specs.Scratch.{LeavesFromScratch};
 ghost use Rattle.gb_answers.specs.Stored.{WasLogged};
 
@@ -13,12 +13,12 @@ use gb_exec::listener::TaskListener;
 use gb_folder::folder::Folder;
 use gb_logged::laws::logged_folders_keep_calls;
 use gb_logged::logged::LoggedFolder;
-use gb_meaning::events::Invocation;
 use gb_printer::printer::Printer;
 use gb_provider::transforms::Transforms;
 use gb_registry::tables::Tables;
 use gb_report::fault::Fault;
 use gb_report::report::Report;
+use gb_semantics::events::Invocation;
 use std::alloc::Global;
 
 /// What an invocation answered, and the folder with all calls that it made and their answers.

@@ -3,14 +3,21 @@
 //! --write`.
 //!
 //! Proved: that the program never panics, and that it ends if its system calls end. `data` is a
-//! folder with records: the gate runs `gb_ask why` over it, and `docs/GUIDE.md#why-did-it-run` shows
-//! what is printed.
+//! folder with records: the gate runs `gb_ask why` over it, and `docs/GUIDE.md#why-did-it-run`
+//! shows what is printed.
+//!
+//! It makes the tables of the built-in kinds and functions, and `here::ask_here` of
+//! `gb_ask_command` does the rest.
+//!
+//! Set aside: an option of `gb` in place of a program, since no contract of a build says that no
+//! change is asked for. A query that changes nothing does not wait for a build, so during one it
+//! may describe a folder half done.
 #![tactic(auto)]
 
 use gb_action::table::ActionTable;
 use gb_answer::{builtin_actions, builtin_functions};
 use gb_ask_command::here::ask_here;
-use gb_command::run::UNPRINTED;
+use gb_cli::program::UNPRINTED;
 use gb_kinds::builtin::{Builtin, StoredAction};
 use std::alloc::AllocError;
 use std::process::ExitCode;

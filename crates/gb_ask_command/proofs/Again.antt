@@ -15,18 +15,18 @@ use Rattle.gb_registry.specs.declared.first_fault.FaultAt.{FaultAt}
 use Rattle.gb_report.specs.declared.fault.Fault.{Fault}
 use Rattle.gb_script.proofs.Sources.{one_said}
 use Rattle.gb_script.proofs.StatementLaws.{Reads-script, script_ends_text}
-use Rattle.gb_script.specs.Script.{Says}
+use Rattle.gb_script.specs.Script.{HasMeaning}
 use Rattle.gb_script.specs.declared.script.Statement.{Statement}
 use Rattle.gb_build.proofs.PlaceLemmas.{places_good}
 use Rattle.gb_build.specs.Scripts.{AreTexts, FolderDeclares, SettingsDeclare, script_places}
-use Rattle.gb_build.specs.Texts.{FileSays, TextSays}
+use Rattle.gb_build.specs.Texts.{FileMeans, TextMeans}
 use Rattle.gb_ask_command.specs.Faulty.{IsFaulty}
 use Rattle.gb_check.specs.Sites.{HasTextFault, IsUnread, blocked, no_place, no_script, script_of_project}
 
 module _ (files : Files) where
   -- the place of the project's script is one, and what is there can be read
   abbrev IsReadable : Path × List Statement → Type 0
-  IsReadable script = (is_place (script_of_project script.0) ≡ true) × ((text : List Statement) × TextSays Says files (script_of_project script.0) (Ok text))
+  IsReadable script = (is_place (script_of_project script.0) ≡ true) × ((text : List Statement) × TextMeans HasMeaning files (script_of_project script.0) (Ok text))
 
   each_readable : (paths : List Path) (texts others : List (List Statement)) → AreTexts files (script_places (with_folders paths)) texts
       → list_all is_place (script_places (with_folders paths)) ≡ true → AllByRecursion IsReadable (zip paths others)
@@ -37,13 +37,13 @@ module _ (files : Files) where
       let parts = and_parts (is_place (script_of_project path)) (list_all is_place (script_places (with_folders paths))) good in
       ((parts.0, (text, are.0)), each_readable paths texts others are.1 parts.1)
 
-  no_fault : (place : Place) (text : List Statement) (fault : Fault) → is_place place ≡ true → TextSays Says files place (Ok text) → HasTextFault files place fault → ⊥
+  no_fault : (place : Place) (text : List Statement) (fault : Fault) → is_place place ≡ true → TextMeans HasMeaning files place (Ok text) → HasTextFault files place fault → ⊥
   no_fault place text fault good says (no_place bad is) = false≢true (sym bad ∙ good)
   no_fault place text fault good (inl (in_way, wrong)) (blocked exists is) = cc
   no_fault place text fault good (inr (free, says)) (blocked exists is) = false≢true (sym free ∙ exists)
   no_fault place text fault good (inl (in_way, wrong)) (no_script bytes of at bad is) = cc
   no_fault place text fault good (inr (free, says)) (no_script bytes of at bad is) =
-      let here : FileSays Says place (Some bytes) (Ok text) = subst (λ (file : Option Bytes). FileSays Says place file (Ok text)) at says in
+      let here : FileMeans HasMeaning place (Some bytes) (Ok text) = subst (λ (file : Option Bytes). FileMeans HasMeaning place file (Ok text)) at says in
       let two = one_said Reads-script script_ends_text bytes (Ok text) (Err of) here bad in
       cc
 

@@ -12,9 +12,9 @@ use Rattle.gb_check.specs.declared.findings.Finding.{Finding}
 use Rattle.gb_check.specs.declared.findings.Findings.{Findings}
 use Rattle.gb_declare.specs.Registered.{registry_said}
 use Rattle.gb_folder.specs.Files.{Contents, Files}
-use Rattle.gb_meaning.specs.Events.{IsRefusedBy}
-use Rattle.gb_meaning.specs.TrueRecord.{outside}
-use Rattle.gb_meaning.specs.declared.events.Invocation.{Invocation}
+use Rattle.gb_semantics.specs.Events.{IsRefusedBy}
+use Rattle.gb_semantics.specs.TrueRecord.{outside}
+use Rattle.gb_semantics.specs.declared.events.Invocation.{Invocation}
 use Rattle.gb_plan.specs.Graph.{Plan, Registry, paths_of}
 use Rattle.gb_plan.specs.Refusal.{IsScheduleFault}
 use Rattle.gb_plan.specs.Task.{Path, Text}

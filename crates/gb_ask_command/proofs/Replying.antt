@@ -4,8 +4,8 @@ use Rattle.std.proofs.Common.{inl, inr, subst}
 use Rattle.gb_declare.specs.Registered.{registry_said}
 use Rattle.gb_folder.specs.Files.{Contents, Place, is_special_under}
 use Rattle.gb_graph.specs.Answer.{IsRefusalOf}
-use Rattle.gb_meaning.specs.Edits.{Shown}
-use Rattle.gb_meaning.specs.declared.events.Invocation.{Invocation}
+use Rattle.gb_semantics.specs.Edits.{Shown}
+use Rattle.gb_semantics.specs.declared.events.Invocation.{Invocation}
 use Rattle.gb_plan.specs.Graph.{Registry, paths_of}
 use Rattle.gb_predict.specs.declared.predicted_outcome.Prediction.{Prediction}
 use Rattle.gb_query.specs.Inventory.{AreEntriesOf, IsUnlisted}
@@ -21,7 +21,7 @@ use Rattle.gb_folder.proofs.Machine.{machine_before}
 use Rattle.gb_ask_command.specs.Graph.{IsDrawing}
 use Rattle.gb_ask_command.specs.Replies.{AreRead, IsGraphReply, IsReplyAbout, IsReplyOf, IsStatusReply}
 use Rattle.gb_ask_command.specs.Reply.{Reply}
-use Rattle.gb_ask_command.specs.declared.words.Style.{Style}
+use Rattle.gb_ask_command.specs.declared.arguments.Style.{Style}
 
 module _ {M F Z S A : Type 0} (tables : Tables M F Z S A) (known : Type 0) (old : Shown) (after : ℕ) (invocation : Invocation) where
   -- a text, or that memory ran out

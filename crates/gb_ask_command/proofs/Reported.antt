@@ -11,10 +11,10 @@ use Rattle.gb_history.specs.Record.{Record}
 use Rattle.gb_build.proofs.Keeping.{begun_before}
 use Rattle.gb_build.specs.Registering.{registers_in}
 use Rattle.gb_build.proofs.Refusing.{not_built}
-use Rattle.gb_meaning.specs.Edits.{Shown}
-use Rattle.gb_meaning.specs.Kinds.{Kinds}
-use Rattle.gb_meaning.specs.TrueRecord.{outside}
-use Rattle.gb_meaning.specs.declared.events.Invocation.{Invocation}
+use Rattle.gb_semantics.specs.Edits.{Shown}
+use Rattle.gb_semantics.specs.Kinds.{Kinds}
+use Rattle.gb_semantics.specs.TrueRecord.{outside}
+use Rattle.gb_semantics.specs.declared.events.Invocation.{Invocation}
 use Rattle.gb_plan.specs.Graph.{IsRegistry, Plan, Registry, order}
 use Rattle.gb_plan.specs.Ready.{Rows}
 use Rattle.gb_plan.specs.declared.plan.Planned.{Planned}
@@ -23,8 +23,8 @@ use Rattle.gb_registry.specs.Tables.{Tables}
 use Rattle.gb_report.specs.declared.report.Options.{Options}
 use Rattle.gb_ask_command.specs.Coloured.{ArePredicted}
 use Rattle.gb_ask_command.specs.Reported.{Answer, AreReported, AreReportedOf, AreReportedOn, IsAnswerTo, IsNotReported, IsReported, in_earnest}
-use Rattle.gb_ask_command.specs.declared.words.Colouring.{Colouring}
-use Rattle.gb_ask_command.specs.declared.words.Colouring.TheVariants as colourings
+use Rattle.gb_ask_command.specs.declared.arguments.Colouring.{Colouring}
+use Rattle.gb_ask_command.specs.declared.arguments.Colouring.TheVariants as colourings
 
 -- ---- Answers
 

@@ -18,7 +18,7 @@ use Rattle.gb_report.specs.declared.fault.Fault.{Fault}
 use Rattle.gb_report.specs.declared.fault.Fault.TheVariants as faults
 use Rattle.gb_script.specs.declared.fault.ScriptFault.TheVariants as scripts
 use Rattle.gb_ask_command.specs.Fmt.{Formats, FormatsAt, IsText, IsTreated, Replaces, Shows, Treats, TreatsText, answer_at, is_input, is_settings, mode_as, named_after}
-use Rattle.gb_ask_command.specs.declared.words.Mode.{Mode}
+use Rattle.gb_ask_command.specs.declared.arguments.Mode.{Mode}
 
 -- ---- whether something was printed
 

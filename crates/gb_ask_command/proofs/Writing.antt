@@ -10,8 +10,8 @@ use Rattle.gb_folder.specs.Each.{Each, Ended, OrStops}
 use Rattle.gb_format.specs.Formatted.{IsFormatted}
 use Rattle.gb_report.specs.declared.fault.Fault.{Fault}
 use Rattle.gb_ask_command.specs.Fmt.{Formats, FormatsAt, IsText, IsTreated, Replaces, Shows, Treats, TreatsText, is_input, may_write, mode_as}
-use Rattle.gb_ask_command.specs.declared.words.Mode.{Mode}
-use Rattle.gb_ask_command.specs.declared.words.Mode.TheVariants as modes
+use Rattle.gb_ask_command.specs.declared.arguments.Mode.{Mode}
+use Rattle.gb_ask_command.specs.declared.arguments.Mode.TheVariants as modes
 
 -- ---- calls that are permitted
 

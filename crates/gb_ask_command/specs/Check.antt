@@ -12,11 +12,11 @@ use Rattle.gb_check.specs.declared.findings.Finding.{Finding}
 use Rattle.gb_check.specs.declared.findings.Findings.{Findings}
 use Rattle.gb_check.specs.declared.findings.Spot.{Spot}
 use Rattle.gb_check.specs.declared.findings.Spot.TheVariants as spots
-use Rattle.gb_command.specs.Answered.{AreRefused, AskFor, Given}
+use Rattle.gb_cli.specs.Answered.{AreRefused, AskFor, Given}
 use Rattle.gb_declare.specs.Registered.{registry_said}
 use Rattle.gb_folder.specs.Files.{Contents, Files, Place, is_empty}
-use Rattle.gb_meaning.specs.Events.{IsDeviceFault, IsNotBuilt}
-use Rattle.gb_meaning.specs.declared.events.Invocation.{Invocation}
+use Rattle.gb_semantics.specs.Events.{IsDeviceFault, IsNotBuilt}
+use Rattle.gb_semantics.specs.declared.events.Invocation.{Invocation}
 use Rattle.gb_plan.specs.Graph.{Plan, Registry, paths_of}
 use Rattle.gb_plan.specs.Refusal.{IsScheduleFault}
 use Rattle.gb_plan.specs.Task.{Text}

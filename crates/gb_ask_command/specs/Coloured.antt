@@ -1,15 +1,15 @@
 -- Graphs with the colours of predictions.
 use Rattle.std.specs.Prelude.{ℕ, ◌≡◌, List, [], Ok, Err}
-use Rattle.gb_meaning.specs.Edits.{Shown}
-use Rattle.gb_meaning.specs.declared.events.Invocation.{Invocation}
+use Rattle.gb_semantics.specs.Edits.{Shown}
+use Rattle.gb_semantics.specs.declared.events.Invocation.{Invocation}
 use Rattle.gb_predict.specs.declared.predicted_outcome.Prediction.{Prediction}
 use Rattle.gb_registry.specs.Tables.{Tables}
 use Rattle.gb_ask_command.specs.Replies.{IsGraphReply}
 use Rattle.gb_ask_command.specs.Reply.{Reply}
 use Rattle.gb_ask_command.specs.Reported.{Answer, IsAnswerTo}
-use Rattle.gb_ask_command.specs.declared.words.Colouring.{Colouring}
-use Rattle.gb_ask_command.specs.declared.words.Colouring.TheVariants as colourings
-use Rattle.gb_ask_command.specs.declared.words.Style.{Style}
+use Rattle.gb_ask_command.specs.declared.arguments.Colouring.{Colouring}
+use Rattle.gb_ask_command.specs.declared.arguments.Colouring.TheVariants as colourings
+use Rattle.gb_ask_command.specs.declared.arguments.Style.{Style}
 
 -- the predictions of an answer; none if it is refused
 abbrev pub found_in : Answer → List Prediction

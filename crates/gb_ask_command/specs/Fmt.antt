@@ -18,12 +18,12 @@ use Rattle.gb_picture.specs.Shown.{shown_text}
 use Rattle.gb_report.specs.Report.{line}
 use Rattle.gb_report.specs.declared.fault.Fault.{Fault}
 use Rattle.gb_report.specs.declared.fault.Fault.TheVariants as faults
-use Rattle.gb_script.specs.Script.{Says, SaysAsSettings}
+use Rattle.gb_script.specs.Script.{HasMeaning, MeansAsSettings}
 use Rattle.gb_script.specs.declared.fault.ScriptFault.{ScriptFault}
 use Rattle.gb_script.specs.declared.fault.ScriptFault.TheVariants as scripts
 use Rattle.gb_folder.specs.Faults.{reported_at}
-use Rattle.gb_ask_command.specs.declared.words.Mode.{Mode}
-use Rattle.gb_ask_command.specs.declared.words.Mode.TheVariants as modes
+use Rattle.gb_ask_command.specs.declared.arguments.Mode.{Mode}
+use Rattle.gb_ask_command.specs.declared.arguments.Mode.TheVariants as modes
 
 -- ---- names and faults
 
@@ -76,8 +76,8 @@ IsText input place calls text =
 abbrev pub Formats : Bool → Bytes → Result Bytes ScriptFault → Type 0
 Formats false text (Ok out) = IsFormatted text out × AreSameScript text out
 Formats true text (Ok out) = IsFormatted text out × AreSameSettings text out
-Formats false text (Err fault) = Says text (Err fault) ⊎ IsLayoutFault text fault
-Formats true text (Err fault) = SaysAsSettings text (Err fault) ⊎ IsLayoutFault text fault
+Formats false text (Err fault) = HasMeaning text (Err fault) ⊎ IsLayoutFault text fault
+Formats true text (Err fault) = MeansAsSettings text (Err fault) ⊎ IsLayoutFault text fault
 
 abbrev pub FormatsAt : Place → Bytes → Result Bytes Fault → Type 0
 FormatsAt place text out =

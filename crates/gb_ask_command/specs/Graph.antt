@@ -15,8 +15,8 @@ use Rattle.gb_predict.specs.declared.predicted_outcome.Prediction.{Prediction}
 use Rattle.gb_query.specs.Drawn.{graph_data}
 use Rattle.gb_query.specs.Objects.{IsJsonOf}
 use Rattle.gb_ask_command.specs.Tints.{with_tints}
-use Rattle.gb_ask_command.specs.declared.words.Style.{Style}
-use Rattle.gb_ask_command.specs.declared.words.Style.TheVariants as styles
+use Rattle.gb_ask_command.specs.declared.arguments.Style.{Style}
+use Rattle.gb_ask_command.specs.declared.arguments.Style.TheVariants as styles
 
 -- ---- The nodes
 

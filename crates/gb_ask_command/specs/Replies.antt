@@ -1,12 +1,12 @@
 -- The replies to the arguments of a question.
 use Rattle.std.specs.Prelude.{ℕ, ◌≡◌, ◌⊎◌, List, Ok, Err, Result, string_bytes}
 use Rattle.gb_build.specs.Scripts.{FolderDeclares}
-use Rattle.gb_command.specs.Answered.{AreRefused, AskFor, Given}
+use Rattle.gb_cli.specs.Answered.{AreRefused, AskFor, Given}
 use Rattle.gb_declare.specs.Registered.{registry_said}
 use Rattle.gb_folder.specs.Files.{Place}
 use Rattle.gb_graph.specs.Answer.{IsRefusalOf}
-use Rattle.gb_meaning.specs.Edits.{Shown}
-use Rattle.gb_meaning.specs.declared.events.Invocation.{Invocation}
+use Rattle.gb_semantics.specs.Edits.{Shown}
+use Rattle.gb_semantics.specs.declared.events.Invocation.{Invocation}
 use Rattle.gb_plan.specs.Graph.{Registry, paths_of}
 use Rattle.gb_predict.specs.declared.predicted_outcome.Prediction.{Prediction}
 use Rattle.gb_query.specs.Asked.{asked_place}
@@ -23,7 +23,7 @@ use Rattle.gb_report.specs.declared.fault.Fault.TheVariants as faults
 use Rattle.gb_folder.specs.Faults.{IsOfMachine}
 use Rattle.gb_ask_command.specs.Graph.{IsDrawing}
 use Rattle.gb_ask_command.specs.Reply.{Reply}
-use Rattle.gb_ask_command.specs.declared.words.Style.{Style}
+use Rattle.gb_ask_command.specs.declared.arguments.Style.{Style}
 
 -- the arguments are refused, or they make a request, and this is the reply to it
 abbrev pub Replies : {R : Type 0} → (Invocation → Result R Fault → Type 0) → Given → Result R Fault → Type 0

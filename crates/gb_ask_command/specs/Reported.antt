@@ -6,7 +6,7 @@ use Rattle.std.specs.List.{AllByRecursion, AllZip, flat_map}
 use Rattle.std.specs.declared.vec.Vec.{Vec}
 use Rattle.gb_action.specs.Meanings.{Meanings}
 use Rattle.gb_answer.specs.Answer.{not_built_text}
-use Rattle.gb_command.specs.Answered.{Given}
+use Rattle.gb_cli.specs.Answered.{Given}
 use Rattle.gb_predict.specs.Prediction.{ArePredictedOf, IsReasoned}
 use Rattle.gb_predict.specs.Marks.{AreMarked}
 use Rattle.gb_predict.specs.declared.predicted_outcome.Prediction.{Prediction}
@@ -14,12 +14,12 @@ use Rattle.gb_graph.specs.Answer.{IsPlanOf, IsRefusalOf}
 use Rattle.gb_history.specs.Record.{Record}
 use Rattle.gb_build.specs.Registering.{registers_in}
 use Rattle.gb_build.specs.Refusing.{IsUnread}
-use Rattle.gb_meaning.specs.Edits.{Shown}
-use Rattle.gb_meaning.specs.Events.{IsNotBuilt}
-use Rattle.gb_meaning.specs.Headline.{Agrees}
-use Rattle.gb_meaning.specs.Kinds.{Kinds}
-use Rattle.gb_meaning.specs.TrueRecord.{outside}
-use Rattle.gb_meaning.specs.declared.events.Invocation.{Invocation}
+use Rattle.gb_semantics.specs.Edits.{Shown}
+use Rattle.gb_semantics.specs.Events.{IsNotBuilt}
+use Rattle.gb_semantics.specs.Headline.{Agrees}
+use Rattle.gb_semantics.specs.Kinds.{Kinds}
+use Rattle.gb_semantics.specs.TrueRecord.{outside}
+use Rattle.gb_semantics.specs.declared.events.Invocation.{Invocation}
 use Rattle.gb_plan.specs.Graph.{IsRegistry, Plan, Registry, order}
 use Rattle.gb_plan.specs.Ready.{Rows}
 use Rattle.gb_plan.specs.Task.{Text}

@@ -2,14 +2,14 @@
 use Rattle.std.specs.Prelude.{ℕ, ◌||◌, List, Option, Some, None, bytes_eq, codes, if◌then◌else◌}
 use Rattle.gb_query.specs.declared.notation.Notation.{Notation}
 use Rattle.gb_query.specs.declared.notation.Notation.TheVariants as notations
-use Rattle.gb_ask_command.specs.declared.words.Colouring.{Colouring}
-use Rattle.gb_ask_command.specs.declared.words.Colouring.TheVariants as colourings
-use Rattle.gb_ask_command.specs.declared.words.Mode.{Mode}
-use Rattle.gb_ask_command.specs.declared.words.Mode.TheVariants as modes
-use Rattle.gb_ask_command.specs.declared.words.Question.{Question}
-use Rattle.gb_ask_command.specs.declared.words.Question.TheVariants as questions
-use Rattle.gb_ask_command.specs.declared.words.Style.{Style}
-use Rattle.gb_ask_command.specs.declared.words.Style.TheVariants as styles
+use Rattle.gb_ask_command.specs.declared.arguments.Colouring.{Colouring}
+use Rattle.gb_ask_command.specs.declared.arguments.Colouring.TheVariants as colourings
+use Rattle.gb_ask_command.specs.declared.arguments.Mode.{Mode}
+use Rattle.gb_ask_command.specs.declared.arguments.Mode.TheVariants as modes
+use Rattle.gb_ask_command.specs.declared.arguments.Question.{Question}
+use Rattle.gb_ask_command.specs.declared.arguments.Question.TheVariants as questions
+use Rattle.gb_ask_command.specs.declared.arguments.Style.{Style}
+use Rattle.gb_ask_command.specs.declared.arguments.Style.TheVariants as styles
 
 abbrev pub question_of : List ℕ → Question
 question_of word =

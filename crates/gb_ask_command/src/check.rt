@@ -2,7 +2,7 @@
 ghost use Rattle.std.specs.Prelude.{◌≡◌, ◌⊎◌, ◌∷◌, ◌++◌, [], IfErr, IfOk, IfSome, if◌then◌else◌};
 ghost use Rattle.std.specs.Prelude.{List, None, map, string_bytes};
 ghost use Rattle.std.specs.Io.KnownBytes.{Appends};
-ghost use Rattle.gb_command.specs.Answered.{given_of};
+ghost use Rattle.gb_cli.specs.Answered.{given_of};
 ghost use Rattle.gb_declare.specs.Registered.{registry_said};
 ghost use Rattle.gb_folder.specs.Calls.{OnlyReads};
 ghost use Rattle.gb_folder.specs.Files.{is_empty};
@@ -26,7 +26,7 @@ ghost use Rattle.gb_ask_command.specs.Reply.{Reply as Replied, reply_text};
 
 use crate::check_json::check_json;
 use crate::first_fault::read_fault;
-use crate::reply::{Reply, push_reply};
+use crate::printed_reply::{Reply, push_reply};
 use crate::unread::warn_unread;
 use gb_action::actions::Actions;
 use gb_build::workspace::read_registry;
@@ -34,10 +34,9 @@ use gb_check::find::find;
 use gb_check::finding_text::{push_findings, unread_text};
 use gb_check::findings::{Finding, Findings, Problem, Spot};
 use gb_check::statement::statement_spot;
-use gb_command::run::asked_by;
+use gb_cli::program::asked_by;
 use gb_core::path::TaskPath;
 use gb_folder::folder::Folder;
-use gb_meaning::events::Invocation;
 use gb_printer::printer::Printer;
 use gb_project::script_tasks::ScriptTasks;
 use gb_provider::transforms::Transforms;
@@ -49,6 +48,7 @@ use gb_registry::first_fault::FaultAt;
 use gb_registry::names::Names;
 use gb_registry::tables::Tables;
 use gb_report::fault::Fault;
+use gb_semantics::events::Invocation;
 use std::alloc::{AllocError, Global};
 
 /// Prints the findings for all registered tasks, as lines or in JSON: first the faults, then the

@@ -3,10 +3,10 @@ ghost use Rattle.std.specs.Prelude.{IfErr, IfOk, string_bytes};
 ghost use Rattle.gb_graph.specs.Answer.{IsRefusalOf};
 ghost use Rattle.gb_ask_command.specs.Graph.{IsDrawing, IsPicture};
 
+use crate::arguments::Style;
 use crate::nodes::nodes_of;
-use crate::reply::Reply;
+use crate::printed_reply::Reply;
 use crate::tints::with_tints;
-use crate::words::Style;
 use gb_core::text::Text;
 use gb_graph::plan::plan;
 use gb_graph::tasks::Tasks;

@@ -6,7 +6,7 @@ ghost use Rattle.gb_folder.specs.Faults.{IsOfMachine};
 ghost use Rattle.gb_ask_command.specs.Faulty.{IsFaultless, IsFaulty, IsTextFault};
 
 use gb_action::actions::Actions;
-use gb_build::scripts::{read_scripts, read_settings_of};
+use gb_build::read_scripts::{read_scripts, read_settings_of};
 use gb_folder::folder::Folder;
 use gb_provider::transforms::Transforms;
 use gb_registry::first_fault::{FaultAt, first_fault};

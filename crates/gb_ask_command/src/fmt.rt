@@ -16,7 +16,7 @@ ghost use Rattle.gb_ask_command.specs.Fmt.{TreatsText, answer_at, bytes_in, end_
 ghost use Rattle.gb_ask_command.specs.Fmt.{fault_in, fmt_status, heading, is_headed, is_input, is_settings};
 ghost use Rattle.gb_ask_command.specs.Fmt.{may_write, mode_as, named_after, script_in, string_in};
 
-use crate::words::Mode;
+use crate::arguments::Mode;
 use gb_answer::answer::refusal_text;
 use gb_core::place::{Place, PlaceFault};
 use gb_core::text::Text;

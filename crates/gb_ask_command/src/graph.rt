@@ -1,7 +1,7 @@
 //! `graph`: the plan of a request, as a graph.
 ghost use Rattle.std.specs.Prelude.{◌≡◌, IfErr, IfOk, IfSome, map, string_bytes};
 ghost use Rattle.std.specs.Io.KnownBytes.{Appends};
-ghost use Rattle.gb_command.specs.Answered.{given_of};
+ghost use Rattle.gb_cli.specs.Answered.{given_of};
 ghost use Rattle.gb_declare.specs.Registered.{registry_said};
 ghost use Rattle.gb_folder.specs.Calls.{OnlyReads};
 ghost use Rattle.gb_graph.specs.Answer.{IsRefusalOf};
@@ -12,16 +12,15 @@ ghost use Rattle.gb_ask_command.specs.Reply.{Reply as Replied, reply_status, rep
 ghost use Rattle.gb_ask_command.specs.Coloured.{ArePredicted, IsGraphAnswer, found_in};
 ghost use Rattle.gb_ask_command.specs.Replies.{IsGraphReply, Replies};
 
-use crate::answer::Answer;
+use crate::arguments::{Colouring, Style};
 use crate::drawing::draw_requested;
 use crate::predicting::predict_build;
-use crate::reply::{Reply, print_reply};
-use crate::scripts::read_asked;
-use crate::words::{Colouring, Style};
+use crate::printed_reply::{Reply, print_reply};
+use crate::read_scripts::read_asked;
+use crate::why_output::Answer;
 use gb_action::actions::Actions;
-use gb_command::run::asked_by;
+use gb_cli::program::asked_by;
 use gb_folder::folder::Folder;
-use gb_meaning::events::Invocation;
 use gb_predict::predicted_outcome::Prediction;
 use gb_printer::printer::Printer;
 use gb_project::script_tasks::ScriptTasks;
@@ -29,6 +28,7 @@ use gb_provider::transforms::Transforms;
 use gb_registry::configured::Configured;
 use gb_registry::tables::Tables;
 use gb_report::fault::Fault;
+use gb_semantics::events::Invocation;
 use std::alloc::Global;
 
 /// Prints the plan of the arguments' request as a graph in this style. If colours are requested,

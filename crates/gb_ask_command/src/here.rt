@@ -1,16 +1,16 @@
 //! The query that the arguments name, over the current directory.
+use crate::arguments::{Mode, Question, USAGE, mode_of, question_of};
 use crate::fmt;
 use crate::questions::{drawn, noted, split_option};
-use crate::words::{Mode, Question, USAGE, mode_of, question_of};
 use gb_action::actions::Actions;
 use gb_action::table::{ActionTable, TableFault};
-use gb_command::run::UNPRINTED;
+use gb_cli::program::UNPRINTED;
 use gb_disk::disk::DiskFolder;
 use gb_folder::folder::Folder;
+use gb_here::arguments::command_words;
 use gb_here::here::Functions;
 use gb_here::lock::locks;
 use gb_here::refused::print_refused;
-use gb_here::words::command_words;
 use gb_printer::page::Page;
 use gb_printer::printer::Printer;
 use gb_provider::transforms::Transforms;
@@ -178,20 +178,41 @@ fn formatted<R: Files<File = File> + Input + AllocGlobal, F: Folder, W: Printer>
     page: &mut W,
 ) -> Option<u8> {
     let (mode, names) = split_option(words, mode_of);
-    let mode = mode.unwrap_or(Mode::Prints);
-    if names.is_empty() || names.iter().any(|name| is_option(name.as_str())) {
-        return Some(2);
-    }
-    let input = input_for(rt, names.as_slice())?;
+    let status = if names.is_empty() || names.iter().any(|name| is_option(name.as_str())) {
+        Some(2)
+    } else {
+        let mode = mode.unwrap_or(Mode::Prints);
+        format_named(rt, folder, mode, names.as_slice(), page)
+    };
+    drop(names);
+    status
+}
+
+/// Formats these files, and the input if it is among them.
+fn format_named<R: Files<File = File> + Input + AllocGlobal, F: Folder, W: Printer>(
+    rt: &R,
+    folder: &mut F,
+    mode: Mode,
+    names: &[String],
+    page: &mut W,
+) -> Option<u8> {
+    let input = input_for(rt, names)?;
+    let status = format_locked(rt, folder, mode, names, input.as_slice(), page);
+    drop(input);
+    status
+}
+
+/// Formats these files under the locks that the mode needs.
+fn format_locked<R: Files<File = File> + AllocGlobal, F: Folder, W: Printer>(
+    rt: &R,
+    folder: &mut F,
+    mode: Mode,
+    names: &[String],
+    input: &[u8],
+    page: &mut W,
+) -> Option<u8> {
     let held = locks_for(rt, mode).ok()?;
-    let status = fmt::run(
-        rt.alloc(),
-        folder,
-        mode,
-        names.as_slice(),
-        input.as_slice(),
-        page,
-    );
+    let status = fmt::run(rt.alloc(), folder, mode, names, input, page);
     drop(held);
     status
 }

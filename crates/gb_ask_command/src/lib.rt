@@ -48,7 +48,7 @@
 //! a moment, to find out whether a build runs, which keeps no other `status` from its answer.
 #![tactic(auto)]
 
-mod answer;
+pub mod arguments;
 pub mod check;
 mod check_json;
 mod drawing;
@@ -57,11 +57,11 @@ pub mod fmt;
 pub mod graph;
 pub mod here;
 mod nodes;
-pub mod places;
+pub mod place_query;
 mod predicting;
+mod printed_reply;
 mod questions;
-mod reply;
-mod scripts;
+mod read_scripts;
 pub mod status;
 mod task_line;
 pub mod tasks;
@@ -69,4 +69,4 @@ mod tints;
 mod unread;
 pub mod why;
 mod why_json;
-pub mod words;
+mod why_output;

@@ -4,7 +4,7 @@ ghost use Rattle.gb_graph.specs.Ranked.{GiveNumbers, numbers_in};
 ghost use Rattle.gb_plan.specs.Graph.{Plan, no_repeats, order};
 ghost use Rattle.gb_ask_command.specs.Graph.{AreNodesOf, IsNodeOf};
 
-use gb_core::tasks::TaskPaths;
+use gb_core::task_paths::TaskPaths;
 use gb_graph::by_path::Numbers;
 use gb_graph::ranked::numbers_of;
 use gb_picture::graph::{Node, Tint};

@@ -10,7 +10,7 @@ ghost use Rattle.gb_declare.specs.Registered.{registry_said};
 ghost use Rattle.gb_registry.specs.Tables.{tables_of};
 ghost use Rattle.gb_ask_command.specs.Reported.{AreReported, AreReportedOf, IsAnswerTo, IsNotReported};
 
-use crate::answer::Answer;
+use crate::why_output::Answer;
 use gb_action::actions::Actions;
 use gb_action::table::ActionTable;
 use gb_build::workspace::read_registry;
@@ -20,7 +20,6 @@ use gb_core::text::Text;
 use gb_folder::folder::Folder;
 use gb_graph::plan::plan;
 use gb_graph::tasks::Tasks;
-use gb_meaning::events::{Invocation, Properties};
 use gb_plan::plan::{Planned, paths_of};
 use gb_predict::predict::predict;
 use gb_project::script_tasks::ScriptTasks;
@@ -29,6 +28,7 @@ use gb_records::stored_records::read_records;
 use gb_registry::configured::Configured;
 use gb_registry::tables::Tables;
 use gb_report::report::Options;
+use gb_semantics::events::{Invocation, Properties};
 use std::alloc::{AllocError, Global};
 
 /// Reads the scripts of a folder with the given values, and predicts the request for the tasks that

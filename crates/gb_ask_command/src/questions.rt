@@ -1,8 +1,8 @@
 //! The queries that ask for no change, with their options.
 ghost use Rattle.gb_folder.specs.Calls.{OnlyReads};
 
-use crate::words::{Colouring, Question, Style, colouring_of, notation_of, style_of};
-use crate::{check, graph, places, status, tasks, why};
+use crate::arguments::{Colouring, Question, Style, colouring_of, notation_of, style_of};
+use crate::{check, graph, place_query, status, tasks, why};
 use gb_action::actions::Actions;
 use gb_folder::folder::Folder;
 use gb_printer::printer::Printer;
@@ -33,7 +33,7 @@ pub(crate) fn noted<A: Actions, T: Transforms, F: Folder, W: Printer>(
         Question::Tasks => tasks::run(alloc, folder, notation, words, page, tables),
         Question::Check => check::run(alloc, folder, notation, words, page, tables),
         Question::Reads => {
-            places::run(
+            place_query::run(
                 alloc,
                 folder,
                 notation,
@@ -44,7 +44,7 @@ pub(crate) fn noted<A: Actions, T: Transforms, F: Folder, W: Printer>(
             )
         }
         Question::Makes => {
-            places::run(
+            place_query::run(
                 alloc,
                 folder,
                 notation,

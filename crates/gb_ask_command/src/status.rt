@@ -1,7 +1,7 @@
 //! `status`: whether a build runs, and what each file of `.gb` is.
 ghost use Rattle.std.specs.Prelude.{◌≡◌, IfErr, IfOk, IfSome, map, string_bytes};
 ghost use Rattle.std.specs.Io.KnownBytes.{Appends};
-ghost use Rattle.gb_command.specs.Answered.{given_of};
+ghost use Rattle.gb_cli.specs.Answered.{given_of};
 ghost use Rattle.gb_declare.specs.Registered.{registry_said};
 ghost use Rattle.gb_folder.specs.Calls.{OnlyReads};
 ghost use Rattle.gb_printer.specs.Printing.{Prints};
@@ -12,12 +12,11 @@ ghost use Rattle.gb_registry.specs.Tables.{tables_of};
 ghost use Rattle.gb_ask_command.specs.Reply.{Reply as Replied, reply_status, reply_text};
 ghost use Rattle.gb_ask_command.specs.Replies.{IsStatusReply, Replies};
 
-use crate::reply::{Reply, print_reply};
-use crate::scripts::read_asked;
+use crate::printed_reply::{Reply, print_reply};
+use crate::read_scripts::read_asked;
 use gb_action::actions::Actions;
-use gb_command::run::asked_by;
+use gb_cli::program::asked_by;
 use gb_folder::folder::Folder;
-use gb_meaning::events::Invocation;
 use gb_printer::printer::Printer;
 use gb_provider::transforms::Transforms;
 use gb_query::answer_lines::Activity;
@@ -26,6 +25,7 @@ use gb_query::notation::Notation;
 use gb_registry::configured::Configured;
 use gb_registry::tables::Tables;
 use gb_report::fault::Fault;
+use gb_semantics::events::Invocation;
 use std::alloc::Global;
 
 /// Prints whether a build runs, and then what each file of `.gb` is, in the order of the places:

@@ -1,7 +1,7 @@
 //! `tasks`: every registered task, what it does, and what it makes.
 ghost use Rattle.std.specs.Prelude.{◌≡◌, IfErr, IfOk, IfSome, map, string_bytes};
 ghost use Rattle.std.specs.Io.KnownBytes.{Appends};
-ghost use Rattle.gb_command.specs.Answered.{given_of};
+ghost use Rattle.gb_cli.specs.Answered.{given_of};
 ghost use Rattle.gb_declare.specs.Registered.{registry_said};
 ghost use Rattle.gb_folder.specs.Calls.{OnlyReads};
 ghost use Rattle.gb_printer.specs.Printing.{Prints};
@@ -10,12 +10,11 @@ ghost use Rattle.gb_registry.specs.Tables.{tables_of};
 ghost use Rattle.gb_ask_command.specs.Reply.{Reply as Replied, reply_status, reply_text};
 ghost use Rattle.gb_ask_command.specs.Replies.{IsTasksReply, Replies};
 
-use crate::reply::{Reply, print_reply};
-use crate::scripts::read_asked;
+use crate::printed_reply::{Reply, print_reply};
+use crate::read_scripts::read_asked;
 use gb_action::actions::Actions;
-use gb_command::run::asked_by;
+use gb_cli::program::asked_by;
 use gb_folder::folder::Folder;
-use gb_meaning::events::Invocation;
 use gb_printer::printer::Printer;
 use gb_project::script_tasks::ScriptTasks;
 use gb_provider::transforms::Transforms;
@@ -24,6 +23,7 @@ use gb_query::notation::Notation;
 use gb_registry::configured::Configured;
 use gb_registry::tables::Tables;
 use gb_report::fault::Fault;
+use gb_semantics::events::Invocation;
 use std::alloc::Global;
 
 /// Prints each registered task, in the order of registration, as a line or in JSON: its path,

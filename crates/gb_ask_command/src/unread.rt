@@ -12,8 +12,8 @@ use gb_core::text::Text;
 use gb_registry::checking::Scripted;
 use gb_registry::operands::{Look, look_along};
 use gb_report::fault::Fault;
-use gb_script::expression::{Expression, Source, Step};
 use gb_script::script::{Call, Clause, Statement};
+use gb_script::script_expression::{Expression, Source, Step};
 use std::alloc::{AllocError, Global};
 
 /// Looks for reads of the value of a name. For one that it finds, it returns a fault as a mark.

@@ -1,24 +1,24 @@
 //! `why`: the outcome of each task in a build, and why it would be executed.
 ghost use Rattle.std.specs.Prelude.{◌≡◌, IfSome, MatchResult, map, string_bytes};
 ghost use Rattle.std.specs.Io.KnownBytes.{Appends};
-ghost use Rattle.gb_command.specs.Answered.{AreRefused, AskFor, given_of};
+ghost use Rattle.gb_cli.specs.Answered.{AreRefused, AskFor, given_of};
 ghost use Rattle.gb_folder.specs.Calls.{OnlyReads};
 ghost use Rattle.gb_printer.specs.Printing.{Prints};
 ghost use Rattle.gb_registry.specs.Tables.{tables_of};
 ghost use Rattle.gb_ask_command.specs.Reply.{Reply as Replied, reply_status};
 ghost use Rattle.gb_ask_command.specs.Reported.{Answer as Answered, Answers, IsWritten, why_text};
 
-use crate::answer::{Answer, print_answer, write_answer};
 use crate::predicting::predict_build;
+use crate::why_output::{Answer, print_answer, write_answer};
 use gb_action::actions::Actions;
-use gb_command::run::asked_by;
+use gb_cli::program::asked_by;
 use gb_folder::folder::Folder;
-use gb_meaning::events::Invocation;
 use gb_printer::printer::Printer;
 use gb_provider::transforms::Transforms;
 use gb_query::notation::Notation;
 use gb_registry::tables::Tables;
 use gb_report::fault::Fault;
+use gb_semantics::events::Invocation;
 use std::alloc::Global;
 
 /// Prints each task of the plan that a build with the same arguments would have, as a line or in

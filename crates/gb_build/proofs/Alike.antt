@@ -2,17 +2,17 @@
 use Rattle.std.specs.Prelude.{List, Option, None, Some}
 use Rattle.std.proofs.Common.{inl, inr}
 use Rattle.gb_folder.specs.Files.{Bytes, Files, Place, SameTearing, Tearing, file_at, places_under}
-use Rattle.gb_meaning.specs.declared.events.Answer.{Answer}
-use Rattle.gb_meaning.specs.declared.events.Answer.TheVariants as answers
-use Rattle.gb_meaning.specs.declared.events.Event.{Event}
-use Rattle.gb_meaning.specs.declared.events.Event.TheVariants as events
-use Rattle.gb_meaning.specs.Edits.{IsStopped, LossStep, PutStep, RemoveStep, Shown, own_place}
-use Rattle.gb_meaning.specs.Events.{State, Step, may_occur, own_files, shown_in, world_in}
-use Rattle.gb_meaning.specs.Headline.{Registering}
-use Rattle.gb_meaning.specs.Kinds.{Kinds}
-use Rattle.gb_meaning.specs.Label.{Moment}
-use Rattle.gb_meaning.specs.Execution.{Guard, WorldState}
-use Rattle.gb_meaning.proofs.Lemmas.Weaker.{builds_weaker}
+use Rattle.gb_semantics.specs.declared.events.Answer.{Answer}
+use Rattle.gb_semantics.specs.declared.events.Answer.TheVariants as answers
+use Rattle.gb_semantics.specs.declared.events.Event.{Event}
+use Rattle.gb_semantics.specs.declared.events.Event.TheVariants as events
+use Rattle.gb_semantics.specs.Edits.{IsStopped, LossStep, PutStep, RemoveStep, Shown, own_place}
+use Rattle.gb_semantics.specs.Events.{State, Step, may_occur, own_files, shown_in, world_in}
+use Rattle.gb_semantics.specs.Headline.{Registering}
+use Rattle.gb_semantics.specs.Kinds.{Kinds}
+use Rattle.gb_semantics.specs.Label.{Moment}
+use Rattle.gb_semantics.specs.Execution.{Guard, WorldState}
+use Rattle.gb_semantics.proofs.Lemmas.Weaker.{builds_weaker}
 use Rattle.gb_plan.specs.declared.task.TaskDeclaration.{TaskDeclaration as Task}
 use Rattle.gb_report.specs.declared.fault.Fault.{Fault}
 use Rattle.gb_report.specs.declared.fault.Fault.TheVariants as faults

@@ -4,7 +4,7 @@ use Rattle.std.proofs.Common.{subst, sym}
 use Rattle.gb_action.specs.Meanings.{Meanings}
 use Rattle.gb_folder.specs.Calls.{Requests, no_change, Device}
 use Rattle.gb_folder.proofs.Asked.{requests_nothing, requests_then}
-use Rattle.gb_meaning.specs.declared.events.Invocation.{Invocation}
+use Rattle.gb_semantics.specs.declared.events.Invocation.{Invocation}
 use Rattle.gb_plan.specs.Graph.{Plan, Registry, order}
 use Rattle.gb_plan.specs.Ready.{Rows}
 use Rattle.gb_records.proofs.Answering.{all_answered_longer}

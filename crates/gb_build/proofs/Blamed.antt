@@ -2,7 +2,7 @@
 use Rattle.std.specs.Prelude.{ℕ, ◌≡◌, ◌≤◌, ◌⊎◌, Bool, false, List, cond, Err, Result}
 use Rattle.std.proofs.Common.{refl, sym, ap, ◌∙◌, subst, inl, inr, arith}
 use Rattle.gb_folder.specs.Files.{HasRisen}
-use Rattle.gb_meaning.specs.Headline.{HasFailed, answer_of, is_of_device, times_attributed}
+use Rattle.gb_semantics.specs.Headline.{HasFailed, answer_of, is_of_device, times_attributed}
 use Rattle.gb_report.specs.declared.fault.Fault.{Fault}
 use Rattle.gb_report.specs.declared.fault.Fault.TheVariants as faults
 use Rattle.gb_report.specs.declared.report.Report.{Report}

@@ -5,7 +5,7 @@ use Rattle.std.proofs.Common.{refl, sym, ap, subst, ◌∙◌, true≢false, inl
 use Rattle.gb_core.specs.Path.{is_task_path, project_of, task_in}
 use Rattle.gb_core.specs.Place.{is_place, joined}
 use Rattle.gb_folder.specs.Files.{Place}
-use Rattle.gb_meaning.specs.Headline.{is_of_device}
+use Rattle.gb_semantics.specs.Headline.{is_of_device}
 use Rattle.gb_provider.specs.Table.{map_named, flat_map_named, zip_named, test_named}
 use Rattle.gb_registry.specs.Configure.{change_faults, configure_faults, each_after, finalizes, missing_at_link, missing_at_root, missing_tasks, statement_faults, statement_scope, values_of}
 use Rattle.gb_registry.specs.Faults.{ReportsFirst, first_of}

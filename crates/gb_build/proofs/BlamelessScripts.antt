@@ -3,7 +3,7 @@ use Rattle.std.specs.Prelude.{ℕ, ◌≡◌, ◌++◌, ◌||◌, false, List, [
 use Rattle.std.proofs.Common.{inl, inr, refl, ap, ◌∙◌}
 use Rattle.gb_core.specs.Path.{is_project_path, task_name}
 use Rattle.gb_folder.specs.Files.{Bytes, Files, Place, file_at}
-use Rattle.gb_meaning.specs.Headline.{is_of_device}
+use Rattle.gb_semantics.specs.Headline.{is_of_device}
 use Rattle.gb_registry.specs.Configure.{configure_faults}
 use Rattle.gb_registry.specs.Projects.{Path, absolute, crowd_faults, folder_text, included, is_among, lineage_of, path_faults, paths_faults, place_faults, root_path, settings_faults, text_faults, texts_faults, with_path, with_paths}
 use Rattle.gb_registry.specs.Source.{Source, source_of}
@@ -11,11 +11,11 @@ use Rattle.gb_registry.specs.Tables.{Tables}
 use Rattle.gb_report.specs.declared.fault.Fault.{Fault}
 use Rattle.gb_report.specs.declared.fault.Fault.TheVariants as faults
 use Rattle.gb_report.specs.declared.fault.Limited.TheVariants as limited
-use Rattle.gb_script.specs.Script.{Says, SaysAsSettings}
+use Rattle.gb_script.specs.Script.{HasMeaning, MeansAsSettings}
 use Rattle.gb_script.specs.declared.fault.ScriptFault.{ScriptFault}
 use Rattle.gb_script.specs.declared.fault.ScriptFault.TheVariants as scripts
 use Rattle.gb_build.specs.Scripts.{FolderDeclares, SettingsDeclare, SourceDeclares, settings_place}
-use Rattle.gb_build.specs.Texts.{FileSays, TextSays, in_file}
+use Rattle.gb_build.specs.Texts.{FileMeans, TextMeans, in_file}
 use Rattle.gb_build.proofs.Blameless.{AreBlameless, all_append, configure_blameless, either, first_blameless, one_or_none}
 
 -- ---- Settings
@@ -65,19 +65,19 @@ same_error X a b is = cc
 as_other : (fault other : Fault) → fault ≡ other → is_of_device other ≡ false → is_of_device fault ≡ false
 as_other fault other same none = ap is_of_device same ∙ none
 
-module _ {X : Type 0} (SaysAs : Bytes → Result (List X) ScriptFault → Type 0) (place : Place) (fault : Fault) where
-  file_blameless : (bytes : Option Bytes) → FileSays SaysAs place bytes (Err fault) → is_of_device fault ≡ false
+module _ {X : Type 0} (MeansAs : Bytes → Result (List X) ScriptFault → Type 0) (place : Place) (fault : Fault) where
+  file_blameless : (bytes : Option Bytes) → FileMeans MeansAs place bytes (Err fault) → is_of_device fault ≡ false
   file_blameless None says = cc
   file_blameless (Some bytes) says = as_other fault (in_file place says.0) says.2 (in_file_blameless place says.0)
 
-  text_says_blameless : (files : Files) → TextSays SaysAs files place (Err fault) → is_of_device fault ≡ false
+  text_says_blameless : (files : Files) → TextMeans MeansAs files place (Err fault) → is_of_device fault ≡ false
   text_says_blameless files (inl blocked) = as_other fault (faults.Blocked place) (same_error (List X) fault (faults.Blocked place) blocked.1) refl
   text_says_blameless files (inr says) = file_blameless (file_at files place) says.1
 
 -- ---- Scripts
 
 settings_say_blameless : (files : Files) (fault : Fault) → SettingsDeclare files (Err fault) → is_of_device fault ≡ false
-settings_say_blameless files fault (inl says) = text_says_blameless SaysAsSettings settings_place fault files says
+settings_say_blameless files fault (inl says) = text_says_blameless MeansAsSettings settings_place fault files says
 settings_say_blameless files fault (inr later) = first_blameless (settings_faults later.0) fault (settings_blameless later.0) later.2
 
 module _ {M F Z S A : Type 0} (tables : Tables M F Z S A) where
@@ -87,5 +87,5 @@ module _ {M F Z S A : Type 0} (tables : Tables M F Z S A) where
   -- what the scripts of a folder are refused for is not the device's fault
   pub says_blame_none : (files : Files) (given : List (List ℕ × List ℕ)) (fault : Fault) → FolderDeclares tables files given (Err fault) → is_of_device fault ≡ false
   says_blame_none files given fault (inl says) = settings_say_blameless files fault says
-  says_blame_none files given fault (inr (settings, said, inl first)) = text_says_blameless Says first.place fault files first.here
+  says_blame_none files given fault (inr (settings, said, inl first)) = text_says_blameless HasMeaning first.place fault files first.here
   says_blame_none files given fault (inr (settings, said, inr (texts, all, says))) = source_says_blameless (source_of settings texts given) fault says

@@ -10,7 +10,7 @@ use Rattle.gb_core.specs.Place.{is_beneath}
 use Rattle.gb_core.specs.declared.value.Value.{Value}
 use Rattle.gb_core.specs.declared.value.Value.TheVariants as values
 use Rattle.gb_build.specs.Asking.{NoneBlameDevice}
-use Rattle.gb_meaning.specs.Headline.{is_of_device}
+use Rattle.gb_semantics.specs.Headline.{is_of_device}
 use Rattle.gb_plan.specs.declared.task.Output.{Output}
 use Rattle.gb_plan.specs.declared.task.TaskDeclaration.{TaskDeclaration}
 use Rattle.gb_declare.specs.Declaring.{block_scope, call_faults, clash, clash_faults, clause_faults, clauses_faults, condition_faults, declared, declaring_faults, faults_within, files_faults, heading, is_misshapen, main_faults, pattern_faults, shape_faults, trees_faults, unless}

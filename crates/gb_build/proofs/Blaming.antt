@@ -1,8 +1,8 @@
 -- How often events attribute faults to the device.
 use Rattle.std.specs.Prelude.{ℕ, ◌≡◌, ◌≤◌, ◌+◌, ◌++◌, List, [], ◌∷◌, Ok, Err}
 use Rattle.std.proofs.Common.{arith, refl, sym, subst, inl, inr}
-use Rattle.gb_meaning.specs.declared.events.Answer.{Answer}
-use Rattle.gb_meaning.specs.Headline.{HasFailed, times_attributed, times_attributed_in_all}
+use Rattle.gb_semantics.specs.declared.events.Answer.{Answer}
+use Rattle.gb_semantics.specs.Headline.{HasFailed, times_attributed, times_attributed_in_all}
 use Rattle.gb_report.specs.declared.fault.Fault.TheVariants as faults
 use Rattle.gb_folder.specs.Faults.{Blames}
 use Rattle.gb_build.specs.Answers.{Edit, edit_answer}

@@ -7,9 +7,9 @@ use Rattle.gb_core.specs.Path.{project_of}
 use Rattle.gb_core.specs.Place.{is_beneath, is_under}
 use Rattle.gb_folder.specs.Files.{Contents, DiffersOnlyAt, Files, Place, files_where, is_own}
 use Rattle.gb_history.specs.Places.{record_place}
-use Rattle.gb_meaning.specs.Events.{own_files}
-use Rattle.gb_meaning.specs.Headline.{is_of_build}
-use Rattle.gb_meaning.proofs.Lemmas.Clear.{either}
+use Rattle.gb_semantics.specs.Events.{own_files}
+use Rattle.gb_semantics.specs.Headline.{is_of_build}
+use Rattle.gb_semantics.proofs.Lemmas.Clear.{either}
 use Rattle.gb_plan.specs.Graph.{IsDeclared, Registry, build_folder}
 use Rattle.gb_plan.specs.Task.{Path, has_path, is_output_of}
 use Rattle.gb_plan.specs.declared.plan.Planned.{Planned}

@@ -3,10 +3,10 @@ use Rattle.std.specs.Prelude.{ℕ, ◌≤◌, List, [], ◌∷◌}
 use Rattle.std.proofs.Common.{inl, inr, arith}
 use Rattle.gb_folder.specs.Files.{Bytes, Files}
 use Rattle.gb_folder.proofs.Changes.{HasRisen-before}
-use Rattle.gb_meaning.specs.Events.{Setting, may_occur, rules_in}
-use Rattle.gb_meaning.specs.Label.{Moment}
-use Rattle.gb_meaning.specs.Memory.{World}
-use Rattle.gb_meaning.specs.Execution.{Builds, DoesStart, Guard, WorldState, Execution, Executions, first_moment}
+use Rattle.gb_semantics.specs.Events.{Setting, may_occur, rules_in}
+use Rattle.gb_semantics.specs.Label.{Moment}
+use Rattle.gb_semantics.specs.Memory.{World}
+use Rattle.gb_semantics.specs.Execution.{Builds, DoesStart, Guard, WorldState, Execution, Executions, first_moment}
 use Rattle.gb_plan.specs.Graph.{Plan}
 use Rattle.gb_plan.specs.declared.plan.Planned.{Planned}
 use Rattle.gb_plan.specs.declared.task.TaskDeclaration.{TaskDeclaration as Task}

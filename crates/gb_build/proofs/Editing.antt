@@ -12,7 +12,7 @@ use Rattle.gb_folder.specs.Faults.{IsOfMachine, reported_at}
 use Rattle.gb_folder.proofs.Emptied.{emptied_place}
 use Rattle.gb_folder.proofs.Machine.{machine_before}
 use Rattle.gb_folder.proofs.Removing.{hindered_before}
-use Rattle.gb_meaning.specs.Edits.{IsNoListing, LossStep, PutStep, RemoveStep, Shown, own_place}
+use Rattle.gb_semantics.specs.Edits.{IsNoListing, LossStep, PutStep, RemoveStep, Shown, own_place}
 use Rattle.gb_build.specs.Answers.{Edit, edit_answer}
 
 -- a place is at itself

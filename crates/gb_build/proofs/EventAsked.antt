@@ -2,11 +2,11 @@
 use Rattle.std.specs.Prelude.{◌≡◌, ◌++◌, List, [], ◌∷◌, length, Result, Ok, Err}
 use Rattle.std.proofs.Common.{refl, subst, arith, inl, inr}
 use Rattle.gb_build.specs.InvocationAsked.{InvocationRequests}
-use Rattle.gb_meaning.specs.Headline.{answer_of}
-use Rattle.gb_meaning.specs.declared.events.Answer.{Answer}
-use Rattle.gb_meaning.specs.declared.events.Event.{Event}
-use Rattle.gb_meaning.specs.declared.events.Event.TheVariants as events
-use Rattle.gb_meaning.specs.declared.events.Invocation.{Invocation}
+use Rattle.gb_semantics.specs.Headline.{answer_of}
+use Rattle.gb_semantics.specs.declared.events.Answer.{Answer}
+use Rattle.gb_semantics.specs.declared.events.Event.{Event}
+use Rattle.gb_semantics.specs.declared.events.Event.TheVariants as events
+use Rattle.gb_semantics.specs.declared.events.Invocation.{Invocation}
 use Rattle.gb_registry.specs.Tables.{Tables}
 use Rattle.gb_report.specs.declared.fault.Fault.{Fault}
 use Rattle.gb_report.specs.declared.report.Report.{Report}
@@ -17,7 +17,7 @@ use Rattle.gb_folder.specs.Files.{is_own}
 use Rattle.gb_folder.specs.Limits.{max_file}
 use Rattle.gb_folder.specs.Semantics.{Answer as Answered}
 use Rattle.gb_folder.proofs.Leading.{calls_in, leads_on, leads_once}
-use Rattle.gb_meaning.specs.declared.events.Answer.TheVariants as answers
+use Rattle.gb_semantics.specs.declared.events.Answer.TheVariants as answers
 use Rattle.gb_build.proofs.InvocationAsked.{any_change, calls_keep, invocation_calls}
 
 module _ {F M N Z S A : Type 0} (device : Device F) (tables : Tables M N Z S A) where

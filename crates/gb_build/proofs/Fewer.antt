@@ -2,12 +2,12 @@
 use Rattle.std.specs.Prelude.{◌++◌, List, [], ◌∷◌}
 use Rattle.std.proofs.Common.{inl, inr}
 use Rattle.gb_folder.specs.Files.{Bytes}
-use Rattle.gb_meaning.specs.Label.{Moment}
-use Rattle.gb_meaning.specs.Memory.{folder_contents}
-use Rattle.gb_meaning.specs.Execution.{Builds, Guard, Rules, WorldState, Executions, first_moment, moment_after}
-use Rattle.gb_meaning.proofs.Lemmas.Clear.{Among, found, in_left, in_one, in_right, listed}
-use Rattle.gb_meaning.proofs.Lemmas.Plain.{Spreads}
-use Rattle.gb_meaning.proofs.Existing.{with_execution}
+use Rattle.gb_semantics.specs.Label.{Moment}
+use Rattle.gb_semantics.specs.Memory.{folder_contents}
+use Rattle.gb_semantics.specs.Execution.{Builds, Guard, Rules, WorldState, Executions, first_moment, moment_after}
+use Rattle.gb_semantics.proofs.Lemmas.Clear.{Among, found, in_left, in_one, in_right, listed}
+use Rattle.gb_semantics.proofs.Lemmas.Plain.{Spreads}
+use Rattle.gb_semantics.proofs.Existing.{with_execution}
 use Rattle.gb_plan.specs.declared.plan.Planned.{Planned}
 use Rattle.gb_report.specs.declared.report.TaskReport.{TaskReport}
 use Rattle.gb_build.specs.Leading.{AreAmong}

@@ -5,21 +5,21 @@ use Rattle.std.proofs.Common.{refl, sym, ap, subst, ◌∙◌, inl, inr}
 use Rattle.sha2.specs.Sha256.{sha256}
 use Rattle.gb_folder.specs.Files.{Bytes, Contents, Files, IsFolder, SameTearing, Tearing}
 use Rattle.gb_graph.specs.Answer.{IsPlanOf}
-use Rattle.gb_meaning.specs.declared.events.Event.TheVariants as events
-use Rattle.gb_meaning.specs.declared.events.Invocation.{Invocation}
-use Rattle.gb_meaning.specs.Edits.{Shown}
-use Rattle.gb_meaning.specs.Events.{HasPlan, Setting, may_occur, own_files, rules_in, world_in}
-use Rattle.gb_meaning.specs.Headline.{StillClear, answer_of, contents_outside, observed_with, state_of}
-use Rattle.gb_meaning.specs.Kinds.{Kinds}
-use Rattle.gb_meaning.specs.Label.{Moment}
-use Rattle.gb_meaning.specs.Memory.{Memory, World}
-use Rattle.gb_meaning.specs.TrueRecord.{memory_contents, outside}
-use Rattle.gb_meaning.specs.Execution.{Builds, Guard, WorldState as At}
-use Rattle.gb_meaning.proofs.Lemmas.Clear.{separate_of_fewer}
-use Rattle.gb_meaning.proofs.Lemmas.Plain.{Spreads, plain_builds}
-use Rattle.gb_meaning.proofs.Lemmas.Observed.{remembered_was_observed}
-use Rattle.gb_meaning.proofs.Lemmas.Success.{success_follows, truth_follows}
-use Rattle.gb_meaning.proofs.Lemmas.Weaker.{builds_weaker}
+use Rattle.gb_semantics.specs.declared.events.Event.TheVariants as events
+use Rattle.gb_semantics.specs.declared.events.Invocation.{Invocation}
+use Rattle.gb_semantics.specs.Edits.{Shown}
+use Rattle.gb_semantics.specs.Events.{HasPlan, Setting, may_occur, own_files, rules_in, world_in}
+use Rattle.gb_semantics.specs.Headline.{StillClear, answer_of, contents_outside, observed_with, state_of}
+use Rattle.gb_semantics.specs.Kinds.{Kinds}
+use Rattle.gb_semantics.specs.Label.{Moment}
+use Rattle.gb_semantics.specs.Memory.{Memory, World}
+use Rattle.gb_semantics.specs.TrueRecord.{memory_contents, outside}
+use Rattle.gb_semantics.specs.Execution.{Builds, Guard, WorldState as At}
+use Rattle.gb_semantics.proofs.Lemmas.Clear.{separate_of_fewer}
+use Rattle.gb_semantics.proofs.Lemmas.Plain.{Spreads, plain_builds}
+use Rattle.gb_semantics.proofs.Lemmas.Observed.{remembered_was_observed}
+use Rattle.gb_semantics.proofs.Lemmas.Success.{success_follows, truth_follows}
+use Rattle.gb_semantics.proofs.Lemmas.Weaker.{builds_weaker}
 use Rattle.gb_plan.specs.Graph.{IsRegistry, Plan, Registry, order}
 use Rattle.gb_plan.specs.declared.task.TaskDeclaration.{TaskDeclaration as Task}
 use Rattle.gb_plan.proofs.Tests.{left_of, no_longer, not_true, right_of}

@@ -15,8 +15,8 @@ use Rattle.gb_build.specs.Asking.{AreBuildable}
 use Rattle.gb_build.specs.Found.{IsDeclared}
 use Rattle.gb_build.specs.RequestAsked.{BuildRequests}
 use Rattle.gb_history.specs.Record.{Record}
-use Rattle.gb_meaning.specs.Execution.{dry_reports}
-use Rattle.gb_meaning.specs.declared.events.Invocation.{Invocation}
+use Rattle.gb_semantics.specs.Execution.{dry_reports}
+use Rattle.gb_semantics.specs.declared.events.Invocation.{Invocation}
 use Rattle.gb_plan.specs.Graph.{IsRegistry, Plan, Registry}
 use Rattle.gb_plan.specs.Ready.{Rows}
 use Rattle.gb_registry.specs.Source.{Source}

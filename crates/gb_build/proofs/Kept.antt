@@ -2,11 +2,11 @@
 use Rattle.std.specs.Prelude.{◌≡◌, Bool, not, bytes_eq}
 use Rattle.std.proofs.Common.{ap, ◌∙◌, inl, inr}
 use Rattle.gb_folder.specs.Files.{Bytes, Contents, Files, Place, Tearing, files_where, without}
-use Rattle.gb_meaning.specs.declared.events.Answer.{Answer}
-use Rattle.gb_meaning.specs.declared.events.Answer.TheVariants as answers
-use Rattle.gb_meaning.specs.declared.events.Event.TheVariants as events
-use Rattle.gb_meaning.specs.Edits.{PutStep, RemoveStep, Shown}
-use Rattle.gb_meaning.specs.Headline.{EventKeeps, RefusedEditKeeps, Registering}
+use Rattle.gb_semantics.specs.declared.events.Answer.{Answer}
+use Rattle.gb_semantics.specs.declared.events.Answer.TheVariants as answers
+use Rattle.gb_semantics.specs.declared.events.Event.TheVariants as events
+use Rattle.gb_semantics.specs.Edits.{PutStep, RemoveStep, Shown}
+use Rattle.gb_semantics.specs.Headline.{EventKeeps, RefusedEditKeeps, Registering}
 use Rattle.gb_report.specs.declared.fault.Fault.{Fault}
 use Rattle.gb_report.specs.declared.fault.Fault.TheVariants as faults
 use Rattle.gb_folder.specs.Changes.{ChangesOnly}

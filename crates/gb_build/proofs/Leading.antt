@@ -2,19 +2,19 @@
 use Rattle.std.specs.Prelude.{◌≡◌, ◌≤◌, ◌++◌, Bool, true, IsTrue, List, [], ◌∷◌, Result, ⊤}
 use Rattle.std.proofs.Common.{refl, sym, subst, arith}
 use Rattle.gb_folder.specs.Files.{Bytes, Contents}
-use Rattle.gb_meaning.specs.declared.events.Answer.{Answer}
-use Rattle.gb_meaning.specs.declared.events.Answer.TheVariants as answers
-use Rattle.gb_meaning.specs.declared.events.Event.{Event}
-use Rattle.gb_meaning.specs.declared.events.Event.TheVariants as events
-use Rattle.gb_meaning.specs.declared.events.Invocation.{Invocation}
-use Rattle.gb_meaning.specs.Edits.{Shown}
-use Rattle.gb_meaning.specs.Events.{Setting, State, Step, may_occur, own_files, world_in}
-use Rattle.gb_meaning.specs.Headline.{InvocationHolds, HoldsMemory, StillClear, answer_of, contents_outside, state_of}
-use Rattle.gb_meaning.specs.Memory.{Memory, folder_contents}
-use Rattle.gb_meaning.specs.TrueRecord.{memory_contents}
-use Rattle.gb_meaning.specs.Execution.{Guard}
-use Rattle.gb_meaning.proofs.Lemmas.Clear.{in_left}
-use Rattle.gb_meaning.proofs.Lemmas.Weaker.{builds_weaker}
+use Rattle.gb_semantics.specs.declared.events.Answer.{Answer}
+use Rattle.gb_semantics.specs.declared.events.Answer.TheVariants as answers
+use Rattle.gb_semantics.specs.declared.events.Event.{Event}
+use Rattle.gb_semantics.specs.declared.events.Event.TheVariants as events
+use Rattle.gb_semantics.specs.declared.events.Invocation.{Invocation}
+use Rattle.gb_semantics.specs.Edits.{Shown}
+use Rattle.gb_semantics.specs.Events.{Setting, State, Step, may_occur, own_files, world_in}
+use Rattle.gb_semantics.specs.Headline.{InvocationHolds, HoldsMemory, StillClear, answer_of, contents_outside, state_of}
+use Rattle.gb_semantics.specs.Memory.{Memory, folder_contents}
+use Rattle.gb_semantics.specs.TrueRecord.{memory_contents}
+use Rattle.gb_semantics.specs.Execution.{Guard}
+use Rattle.gb_semantics.proofs.Lemmas.Clear.{in_left}
+use Rattle.gb_semantics.proofs.Lemmas.Weaker.{builds_weaker}
 use Rattle.gb_report.specs.declared.fault.Fault.{Fault}
 use Rattle.gb_report.specs.declared.report.Report.{Report}
 use Rattle.gb_build.specs.Leading.{AreAmong, IsTransition, LeadsTo, HoldsObserved}

@@ -9,18 +9,18 @@ use Rattle.gb_core.specs.Path.{is_task_path}
 use Rattle.gb_folder.specs.Files.{Bytes, Contents, Files, IsFolder, Place, Tearing, file_at, files_where, is_own, places_under, with_left, without}
 use Rattle.gb_folder.proofs.Changes.{file_at-files_where, file_at-with_file, file_at-without}
 use Rattle.gb_history.specs.Places.{record_place}
-use Rattle.gb_meaning.specs.declared.events.Answer.{Answer}
-use Rattle.gb_meaning.specs.declared.events.Answer.TheVariants as answers
-use Rattle.gb_meaning.specs.declared.events.Event.TheVariants as events
-use Rattle.gb_meaning.specs.Edits.{LossStep, Shown, own_place}
-use Rattle.gb_meaning.specs.Events.{KeepsWhatExists, RemembersAfter, Setting}
-use Rattle.gb_meaning.specs.Headline.{Registering, TornWritesAreDetected, contents_outside, state_of}
-use Rattle.gb_meaning.specs.Kinds.{Kinds}
-use Rattle.gb_meaning.specs.Memory.{Entry, Memory, recalled}
-use Rattle.gb_meaning.specs.TrueRecord.{IsMade, IsTextOfNoRecord, Stores, contents_of}
+use Rattle.gb_semantics.specs.declared.events.Answer.{Answer}
+use Rattle.gb_semantics.specs.declared.events.Answer.TheVariants as answers
+use Rattle.gb_semantics.specs.declared.events.Event.TheVariants as events
+use Rattle.gb_semantics.specs.Edits.{LossStep, Shown, own_place}
+use Rattle.gb_semantics.specs.Events.{KeepsWhatExists, RemembersAfter, Setting}
+use Rattle.gb_semantics.specs.Headline.{Registering, TornWritesAreDetected, contents_outside, state_of}
+use Rattle.gb_semantics.specs.Kinds.{Kinds}
+use Rattle.gb_semantics.specs.Memory.{Entry, Memory, recalled}
+use Rattle.gb_semantics.specs.TrueRecord.{IsMade, IsTextOfNoRecord, Stores, contents_of}
 use Rattle.gb_folder.proofs.Sound.{same_from}
-use Rattle.gb_meaning.proofs.Lemmas.Files.{of_T, T_of}
-use Rattle.gb_meaning.proofs.Lemmas.Clear.{Among, in_left, in_one, in_right}
+use Rattle.gb_semantics.proofs.Lemmas.Files.{of_T, T_of}
+use Rattle.gb_semantics.proofs.Lemmas.Clear.{Among, in_left, in_one, in_right}
 use Rattle.sha2.specs.Sha256.{sha256}
 use Rattle.gb_records.specs.Said.{IsText}
 use Rattle.gb_records.proofs.Holding.{at_left}

@@ -10,16 +10,16 @@ use Rattle.gb_registry.specs.Source.{source_of}
 use Rattle.gb_registry.specs.Tables.{Tables}
 use Rattle.gb_script.proofs.Sources.{one_said}
 use Rattle.gb_script.proofs.StatementLaws.{Reads-script, script_ends_text, Reads-settings, settings_end_text}
-use Rattle.gb_script.specs.Script.{Says, SaysAsSettings}
+use Rattle.gb_script.specs.Script.{HasMeaning, MeansAsSettings}
 use Rattle.gb_script.specs.declared.fault.ScriptFault.{ScriptFault}
 use Rattle.gb_build.proofs.ExecutionLemmas.{IsOne, passes_one, executions_one}
 use Rattle.gb_build.specs.Laws.{FoldersDeclareOneThing}
 use Rattle.gb_build.specs.Scripts.{ScriptsDeclare, SettingsDeclare, SourceDeclares, script_places, settings_place}
-use Rattle.gb_build.specs.Texts.{FileSays, TextSays, in_file}
+use Rattle.gb_build.specs.Texts.{FileMeans, TextMeans, in_file}
 use Rattle.gb_build.specs.Executions.{InTurn, Passes}
 
-module _ {X : Type 0} (SaysAs : Bytes → Result (List X) ScriptFault → Type 0) (one : (bytes : Bytes) (a b : Result (List X) ScriptFault) → SaysAs bytes a → SaysAs bytes b → a ≡ b) (place : Place) where
-  file_one : (file : Option Bytes) → IsOne (FileSays SaysAs place file)
+module _ {X : Type 0} (MeansAs : Bytes → Result (List X) ScriptFault → Type 0) (one : (bytes : Bytes) (a b : Result (List X) ScriptFault) → MeansAs bytes a → MeansAs bytes b → a ≡ b) (place : Place) where
+  file_one : (file : Option Bytes) → IsOne (FileMeans MeansAs place file)
   file_one None a b is also = is ∙ sym also
   file_one (Some bytes) (Ok a) (Ok b) is also = ap Ok (let e = one bytes (Ok a) (Ok b) is also in cc)
   file_one (Some bytes) (Ok a) (Err f) is (reported, also, same) = absurd (let e = one bytes (Ok a) (Err reported) is also in cc)
@@ -28,7 +28,7 @@ module _ {X : Type 0} (SaysAs : Bytes → Result (List X) ScriptFault → Type 0
       let h : reported ≡ other = (let e = one bytes (Err reported) (Err other) is also in cc) in
       ap Err (same ∙ ap (in_file place) h ∙ sym too)
 
-  pub text_one : (files : Files) → IsOne (TextSays SaysAs files place)
+  pub text_one : (files : Files) → IsOne (TextMeans MeansAs files place)
   text_one files a b (inl (x, is)) (inl (y, also)) = is ∙ sym also
   text_one files a b (inl (x, is)) (inr (y, also)) = absurd (false≢true (sym y ∙ x))
   text_one files a b (inr (x, is)) (inl (y, also)) = absurd (false≢true (sym x ∙ y))
@@ -85,23 +85,23 @@ module _ {P T : Type 0} (S : P → Result T Fault → Type 0) (one : (p : P) →
   first_one (r ∷ prefix) (s ∷ other) back rest (t ∷ ts) (u ∷ us) p q e f is a b bad worse =
       let h : prefix ++ p ∷ back ≡ other ++ q ∷ rest = cc in first_one prefix other back rest ts us p q e f h a.1 b.1 bad worse
 
-script_one : (files : Files) (place : Place) → IsOne (TextSays Says files place)
-script_one files place = text_one Says (one_said Reads-script script_ends_text) place files
+script_one : (files : Files) (place : Place) → IsOne (TextMeans HasMeaning files place)
+script_one files place = text_one HasMeaning (one_said Reads-script script_ends_text) place files
 
 scripts_one : (files : Files) (places : List Place) → IsOne (ScriptsDeclare files places)
-scripts_one files places (Ok a) (Ok b) is also = ap Ok (all_one (TextSays Says files) (script_one files) places a b is also)
-scripts_one files places (Ok a) (Err f) is also = absurd (none_bad (TextSays Says files) (script_one files) places a also.prefix also.back also.place f is also.all also.here)
-scripts_one files places (Err e) (Ok b) is also = absurd (none_bad (TextSays Says files) (script_one files) places b is.prefix is.back is.place e also is.all is.here)
+scripts_one files places (Ok a) (Ok b) is also = ap Ok (all_one (TextMeans HasMeaning files) (script_one files) places a b is also)
+scripts_one files places (Ok a) (Err f) is also = absurd (none_bad (TextMeans HasMeaning files) (script_one files) places a also.prefix also.back also.place f is also.all also.here)
+scripts_one files places (Err e) (Ok b) is also = absurd (none_bad (TextMeans HasMeaning files) (script_one files) places b is.prefix is.back is.place e also is.all is.here)
 scripts_one files places (Err e) (Err f) is also =
     ap Err (
-    first_one (TextSays Says files) (script_one files) is.prefix also.prefix is.back also.back is.texts also.texts is.place also.place e f (sym is.all ∙ also.all)
+    first_one (TextMeans HasMeaning files) (script_one files) is.prefix also.prefix is.back also.back is.texts also.texts is.place also.place e f (sym is.all ∙ also.all)
     is.before also.before is.here also.here
     )
 
 settings_one : (files : Files) → IsOne (SettingsDeclare files)
 settings_one files =
-    executions_one (TextSays SaysAsSettings files settings_place) (λ settings. Passes (settings_faults settings) settings)
-    (text_one SaysAsSettings (one_said Reads-settings settings_end_text) settings_place files) (λ settings. passes_one (settings_faults settings) settings)
+    executions_one (TextMeans MeansAsSettings files settings_place) (λ settings. Passes (settings_faults settings) settings)
+    (text_one MeansAsSettings (one_said Reads-settings settings_end_text) settings_place files) (λ settings. passes_one (settings_faults settings) settings)
 
 pub folders_one : {M F Z S A : Type 0} (tables : Tables M F Z S A) → FoldersDeclareOneThing tables
 folders_one tables files given =

@@ -3,8 +3,8 @@ use Rattle.std.specs.Prelude.{◌≡◌, Result, Ok}
 use Rattle.std.proofs.Common.{sym, ap, subst, ◌∙◌}
 use Rattle.gb_declare.specs.Registered.{registry_said}
 use Rattle.gb_folder.specs.Files.{Tearing}
-use Rattle.gb_meaning.specs.Kinds.{Kinds}
-use Rattle.gb_meaning.specs.Pinned.{HaveOnePlan}
+use Rattle.gb_semantics.specs.Kinds.{Kinds}
+use Rattle.gb_semantics.specs.Pinned.{HaveOnePlan}
 use Rattle.gb_plan.specs.Graph.{IsPlan, Registry, Request}
 use Rattle.gb_plan.specs.Refusal.{request_of}
 use Rattle.gb_plan.proofs.Same.{plans_are_one}

@@ -4,16 +4,16 @@ use Rattle.std.specs.Cmp.Lexicographic.{bytes_decides}
 use Rattle.std.specs.Prelude.{bytes_eq}
 use Rattle.std.proofs.Common.{refl, sym, ap, ◌∙◌, inl, inr}
 use Rattle.gb_folder.specs.Files.{Bytes, IsFolder, Place, Tearing, is_own}
-use Rattle.gb_meaning.specs.declared.events.Answer.{Answer}
-use Rattle.gb_meaning.specs.declared.events.Answer.TheVariants as answers
-use Rattle.gb_meaning.specs.declared.events.Event.{Event}
-use Rattle.gb_meaning.specs.declared.events.Event.TheVariants as events
-use Rattle.gb_meaning.specs.Edits.{PutStep, RemoveStep, Shown}
-use Rattle.gb_meaning.specs.Events.{Setting, Step, world_in}
-use Rattle.gb_meaning.specs.Headline.{Registering, StillClear, contents_outside, state_of}
-use Rattle.gb_meaning.specs.Kinds.{Kinds}
-use Rattle.gb_meaning.specs.Memory.{Memory}
-use Rattle.gb_meaning.specs.TrueRecord.{memory_contents}
+use Rattle.gb_semantics.specs.declared.events.Answer.{Answer}
+use Rattle.gb_semantics.specs.declared.events.Answer.TheVariants as answers
+use Rattle.gb_semantics.specs.declared.events.Event.{Event}
+use Rattle.gb_semantics.specs.declared.events.Event.TheVariants as events
+use Rattle.gb_semantics.specs.Edits.{PutStep, RemoveStep, Shown}
+use Rattle.gb_semantics.specs.Events.{Setting, Step, world_in}
+use Rattle.gb_semantics.specs.Headline.{Registering, StillClear, contents_outside, state_of}
+use Rattle.gb_semantics.specs.Kinds.{Kinds}
+use Rattle.gb_semantics.specs.Memory.{Memory}
+use Rattle.gb_semantics.specs.TrueRecord.{memory_contents}
 use Rattle.gb_records.proofs.Reported.{holds_elsewhere, holds_for_memory}
 use Rattle.gb_folder.specs.Changes.{ChangesOnly}
 use Rattle.gb_folder.proofs.Machine.{changes_left, changes_none, changes_with, changes_without}

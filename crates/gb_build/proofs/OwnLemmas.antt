@@ -14,14 +14,14 @@ use Rattle.gb_report.specs.declared.fault.Fault.{Fault}
 use Rattle.gb_registry.specs.Projects.{Path, folder_text, project_paths, projects_of, root_path, settings_faults, slashed, with_folders}
 use Rattle.gb_registry.specs.Source.{Source, source_of}
 use Rattle.gb_registry.specs.Tables.{Tables}
-use Rattle.gb_script.specs.Script.{Says, SaysAsSettings}
+use Rattle.gb_script.specs.Script.{HasMeaning, MeansAsSettings}
 use Rattle.gb_script.specs.declared.fault.ScriptFault.{ScriptFault}
 use Rattle.gb_script.specs.declared.script.Statement.{Statement}
 use Rattle.gb_registry.proofs.Fine.{AreFine, is_fine, projects_fine}
 use Rattle.gb_build.proofs.ExecutionLemmas.{executions_stay}
 use Rattle.gb_build.specs.Laws.{OwnFilesDeclareNothing}
 use Rattle.gb_build.specs.Scripts.{AreTexts, FolderDeclares, ScriptsDeclare, SettingsDeclare, SourceDeclares, script_place, script_places, settings_place}
-use Rattle.gb_build.specs.Texts.{FileSays, TextSays}
+use Rattle.gb_build.specs.Texts.{FileMeans, TextMeans}
 use Rattle.gb_build.specs.Executions.{InTurn, Passes}
 
 -- the files that are not the tool's own
@@ -94,10 +94,10 @@ found_same files place plain =
 abbrev AreAlike : Files → Files → Place → Type 0
 AreAlike files other place = (is_blocked files place ≡ is_blocked other place) × (file_at files place ≡ file_at other place)
 
-module _ {X : Type 0} (SaysAs : Bytes → Result (List X) ScriptFault → Type 0) (files other : Files) (place : Place) (alike : AreAlike files other place) where
-  text_stays : (said : Result (List X) Fault) → TextSays SaysAs files place said → TextSays SaysAs other place said
+module _ {X : Type 0} (MeansAs : Bytes → Result (List X) ScriptFault → Type 0) (files other : Files) (place : Place) (alike : AreAlike files other place) where
+  text_stays : (said : Result (List X) Fault) → TextMeans MeansAs files place said → TextMeans MeansAs other place said
   text_stays said (inl (blocked, is)) = inl (sym alike.0 ∙ blocked, is)
-  text_stays said (inr (free, says)) = inr (sym alike.0 ∙ free, subst (λ o. FileSays SaysAs place o said) alike.1 says)
+  text_stays said (inr (free, says)) = inr (sym alike.0 ∙ free, subst (λ o. FileMeans MeansAs place o said) alike.1 says)
 
 module _ (files other : Files) (alike : (place : Place) → is_plain place ≡ true → AreAlike files other place) where
   texts_stay : (places : List Place) (texts : List (List Statement)) → list_all is_plain places ≡ true → AreTexts files places texts → AreTexts other places texts
@@ -105,7 +105,7 @@ module _ (files other : Files) (alike : (place : Place) → is_plain place ≡ t
   texts_stay [] (text ∷ texts) plain all = absurd all
   texts_stay (place ∷ places) [] plain all = absurd all
   texts_stay (place ∷ places) (text ∷ texts) plain all = (
-    text_stays Says files other place (alike place (left_of (is_plain place) (list_all is_plain places) plain)) (Ok text) all.0,
+    text_stays HasMeaning files other place (alike place (left_of (is_plain place) (list_all is_plain places) plain)) (Ok text) all.0,
     texts_stay places texts (right_of (is_plain place) (list_all is_plain places) plain) all.1,
   )
 
@@ -123,14 +123,14 @@ module _ (files other : Files) (alike : (place : Place) → is_plain place ≡ t
         texts = first.texts;
         all = first.all;
         before = texts_stay first.prefix first.texts prefixes first.before;
-        here = text_stays Says files other first.place (alike first.place here) (Err fault) first.here;
+        here = text_stays HasMeaning files other first.place (alike first.place here) (Err fault) first.here;
       }
 
   settings_stay : (said : Result (List (List (List ℕ))) Fault) → SettingsDeclare files said → SettingsDeclare other said
   settings_stay =
-      executions_stay (TextSays SaysAsSettings files settings_place) (TextSays SaysAsSettings other settings_place)
+      executions_stay (TextMeans MeansAsSettings files settings_place) (TextMeans MeansAsSettings other settings_place)
       (λ settings. Passes (settings_faults settings) settings) (λ settings. Passes (settings_faults settings) settings)
-      (text_stays SaysAsSettings files other settings_place (alike settings_place refl)) (λ settings _ r says. says)
+      (text_stays MeansAsSettings files other settings_place (alike settings_place refl)) (λ settings _ r says. says)
 
 -- ---- Scripts are at plain places
 

@@ -3,18 +3,18 @@ use Rattle.std.specs.Prelude.{ℕ, ◌≡◌, ◌≤◌, Bool, IsTrue, List, Err
 use Rattle.std.proofs.Common.{refl, sym, subst, inl, inr}
 use Rattle.gb_folder.specs.Files.{Contents, Files, SameTearing, Tearing}
 use Rattle.gb_folder.proofs.Changes.{HasRisen-before}
-use Rattle.gb_meaning.specs.declared.events.Answer.TheVariants as answers
-use Rattle.gb_meaning.specs.declared.events.Event.TheVariants as events
-use Rattle.gb_meaning.specs.declared.events.Invocation.{Invocation}
-use Rattle.gb_meaning.specs.Edits.{Shown}
-use Rattle.gb_meaning.specs.Events.{HasPlan, IsBuild, IsNotBuilt, Setting, State, Step, may_occur, own_files, world_in}
-use Rattle.gb_meaning.specs.Headline.{Registering, StillClear, answer_of, state_of}
-use Rattle.gb_meaning.specs.Kinds.{Kinds}
-use Rattle.gb_meaning.specs.Label.{Moment}
-use Rattle.gb_meaning.specs.Memory.{Memory}
-use Rattle.gb_meaning.specs.TrueRecord.{outside}
-use Rattle.gb_meaning.specs.Execution.{Guard, WorldState as At}
-use Rattle.gb_meaning.proofs.Lemmas.Weaker.{builds_weaker}
+use Rattle.gb_semantics.specs.declared.events.Answer.TheVariants as answers
+use Rattle.gb_semantics.specs.declared.events.Event.TheVariants as events
+use Rattle.gb_semantics.specs.declared.events.Invocation.{Invocation}
+use Rattle.gb_semantics.specs.Edits.{Shown}
+use Rattle.gb_semantics.specs.Events.{HasPlan, IsBuild, IsNotBuilt, Setting, State, Step, may_occur, own_files, world_in}
+use Rattle.gb_semantics.specs.Headline.{Registering, StillClear, answer_of, state_of}
+use Rattle.gb_semantics.specs.Kinds.{Kinds}
+use Rattle.gb_semantics.specs.Label.{Moment}
+use Rattle.gb_semantics.specs.Memory.{Memory}
+use Rattle.gb_semantics.specs.TrueRecord.{outside}
+use Rattle.gb_semantics.specs.Execution.{Guard, WorldState as At}
+use Rattle.gb_semantics.proofs.Lemmas.Weaker.{builds_weaker}
 use Rattle.gb_build.specs.Leading.{IsTransition, LeadsTo}
 use Rattle.gb_build.proofs.Earlier.{builds_since}
 use Rattle.gb_build.proofs.Leading.{nothing_leads}

@@ -2,10 +2,10 @@
 use Rattle.std.specs.Prelude.{ℕ, ◌≡◌, ◌⊎◌, ◌||◌, ◌&&◌, IsTrue, not, List, Err, Ok, Result, bytes_eq, codes}
 use Rattle.std.proofs.Common.{refl, sym, ap, subst, ◌∙◌, inl, inr}
 use Rattle.gb_folder.specs.Files.{Contents, HasRisen, Place, is_own}
-use Rattle.gb_meaning.specs.declared.events.Invocation.{Invocation}
-use Rattle.gb_meaning.specs.Events.{IsNotBuilt, is_read_first}
-use Rattle.gb_meaning.specs.Edits.{Shown}
-use Rattle.gb_meaning.specs.TrueRecord.{outside}
+use Rattle.gb_semantics.specs.declared.events.Invocation.{Invocation}
+use Rattle.gb_semantics.specs.Events.{IsNotBuilt, is_read_first}
+use Rattle.gb_semantics.specs.Edits.{Shown}
+use Rattle.gb_semantics.specs.TrueRecord.{outside}
 use Rattle.gb_plan.proofs.Tests.{or_right}
 use Rattle.gb_report.specs.declared.fault.Fault.{Fault}
 use Rattle.gb_report.specs.declared.fault.Fault.TheVariants as faults

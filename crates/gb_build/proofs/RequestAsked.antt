@@ -8,8 +8,8 @@ use Rattle.std.proofs.Common.{refl, ap, subst, inl, inr}
 use Rattle.gb_core.specs.Lists.{byte_order, first_of}
 use Rattle.gb_core.specs.Path.{is_task_path}
 use Rattle.gb_folder.specs.Files.{is_empty}
-use Rattle.gb_meaning.specs.Headline.{is_of_device}
-use Rattle.gb_meaning.proofs.Common.{none_some, some_same}
+use Rattle.gb_semantics.specs.Headline.{is_of_device}
+use Rattle.gb_semantics.proofs.Common.{none_some, some_same}
 use Rattle.gb_plan.specs.Graph.{IsSchedule, Plan, Registry, Request, absolute, selected_by, words_of}
 use Rattle.gb_plan.specs.Refusal.{IsRefused, IsScheduleFault, has_cycle, has_overlap, has_own_input, is_undeclared, lacks_project, request_of, word_faults}
 use Rattle.gb_plan.specs.Task.{Path, Text}

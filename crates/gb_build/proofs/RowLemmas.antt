@@ -6,11 +6,11 @@ use Rattle.gb_core.proofs.TaskPaths.{left_of, right_of}
 use Rattle.gb_folder.specs.Files.{Place, Files}
 use Rattle.gb_registry.specs.Projects.{Path}
 use Rattle.gb_report.specs.declared.fault.Fault.{Fault}
-use Rattle.gb_script.specs.Script.{Says}
+use Rattle.gb_script.specs.Script.{HasMeaning}
 use Rattle.gb_script.specs.declared.script.Statement.{Statement}
 use Rattle.gb_build.specs.Found.{WasParsed, WereParsed}
 use Rattle.gb_build.specs.Scripts.{AreTexts, IsFirstFault, script_place, script_places}
-use Rattle.gb_build.specs.Texts.{TextSays}
+use Rattle.gb_build.specs.Texts.{TextMeans}
 use Rattle.gb_exec.proofs.Walking.{zip_more}
 use Rattle.gb_folder.specs.Calls.{Device}
 
@@ -27,20 +27,20 @@ places_more projects i project low at =
 -- the script of one more project is read
 pub text_more : (files : Files) (projects : Projects) (i : ℕ) (project : Path × Option Place) (texts more : List (List Statement)) (text : List Statement)
     → i < length projects → project ≡ get_or projects i project → AreTexts files (script_places (take i projects)) texts
-    → TextSays Says files (script_place project.1) (Ok text) → more ≡ texts ++ text ∷ [] → AreTexts files (script_places (take (i + 1) projects)) more
+    → TextMeans HasMeaning files (script_place project.1) (Ok text) → more ≡ texts ++ text ∷ [] → AreTexts files (script_places (take (i + 1) projects)) more
 text_more files projects i project texts more text low at before here is =
     rw (places_more projects i project low at, is)
-    (zip_more (λ place text. TextSays Says files place (Ok text)) (script_places (take i projects)) texts (script_place project.1) text before here)
+    (zip_more (λ place text. TextMeans HasMeaning files place (Ok text)) (script_places (take i projects)) texts (script_place project.1) text before here)
 
 -- so do they if calls returned them
 pub parsed_more : {F : Type 0} {device : Device F} {old new : F} (projects : Projects) (i : ℕ) (project : Path × Option Place)
     (texts more : List (List Statement)) (text : List Statement)
     → i < length projects → project ≡ get_or projects i project → WereParsed device old new (script_places (take i projects)) texts
-    → WasParsed device Says old new (script_place project.1) text → more ≡ texts ++ text ∷ []
+    → WasParsed device HasMeaning old new (script_place project.1) text → more ≡ texts ++ text ∷ []
     → WereParsed device old new (script_places (take (i + 1) projects)) more
 parsed_more {device = device} {old = old} {new = new} projects i project texts more text low at before here is =
     rw (places_more projects i project low at, is)
-    (zip_more (λ place text. WasParsed device Says old new place text) (script_places (take i projects)) texts (script_place project.1) text before here)
+    (zip_more (λ place text. WasParsed device HasMeaning old new place text) (script_places (take i projects)) texts (script_place project.1) text before here)
 
 -- one more makes one more
 pub long_more : {X : Type 0} (xs more : List X) (x : X) (n : ℕ) → more ≡ xs ++ x ∷ [] → length xs ≡ n → length more ≡ n + 1
@@ -57,7 +57,7 @@ around (y ∷ xs) (suc i) x low at =
 -- the script of the next project has the first fault
 pub first_fault : (files : Files) (projects : Projects) (i : ℕ) (project : Path × Option Place) (texts : List (List Statement)) (fault : Fault)
     → i < length projects → project ≡ get_or projects i project → AreTexts files (script_places (take i projects)) texts
-    → TextSays Says files (script_place project.1) (Err fault) → IsFirstFault files (script_places projects) fault
+    → TextMeans HasMeaning files (script_place project.1) (Err fault) → IsFirstFault files (script_places projects) fault
 first_fault files projects i project texts fault low at before here = record {
   prefix = script_places (take i projects);
   place = script_place project.1;

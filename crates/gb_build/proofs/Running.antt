@@ -4,14 +4,14 @@ use Rattle.std.proofs.Common.{arith, refl, sym, ap, subst, ◌∙◌, inl, inr, 
 use Rattle.std.proofs.lemmas.List.{append-nil, length-take-le}
 use Rattle.std.proofs.Math.Seq.{take-nil}
 use Rattle.gb_folder.specs.Files.{Bytes, Contents}
-use Rattle.gb_meaning.specs.declared.events.Answer.{Answer}
-use Rattle.gb_meaning.specs.declared.events.Answer.TheVariants as answers
-use Rattle.gb_meaning.specs.declared.events.Event.{Event}
-use Rattle.gb_meaning.specs.Edits.{Shown}
-use Rattle.gb_meaning.specs.Events.{Setting, State, world_in}
-use Rattle.gb_meaning.specs.Headline.{AllKeepElsewhere, Ear, EventKeeps, EventsHold, GoesThrough, HaveHeardAll, Registering, RunHolds, StillClear, contents_outside, observed_with, state_of}
-use Rattle.gb_meaning.specs.Memory.{Memory}
-use Rattle.gb_meaning.specs.TrueRecord.{memory_contents}
+use Rattle.gb_semantics.specs.declared.events.Answer.{Answer}
+use Rattle.gb_semantics.specs.declared.events.Answer.TheVariants as answers
+use Rattle.gb_semantics.specs.declared.events.Event.{Event}
+use Rattle.gb_semantics.specs.Edits.{Shown}
+use Rattle.gb_semantics.specs.Events.{Setting, State, world_in}
+use Rattle.gb_semantics.specs.Headline.{AllKeepElsewhere, Ear, EventKeeps, EventsHold, GoesThrough, HaveHeardAll, Registering, RunHolds, StillClear, contents_outside, observed_with, state_of}
+use Rattle.gb_semantics.specs.Memory.{Memory}
+use Rattle.gb_semantics.specs.TrueRecord.{memory_contents}
 use Rattle.gb_exec.proofs.Clearly.{clear_or_not}
 use Rattle.gb_plan.proofs.Tests.{not_true}
 use Rattle.gb_build.specs.Leading.{IsTransition, HoldsObserved}

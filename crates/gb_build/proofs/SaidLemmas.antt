@@ -9,11 +9,11 @@ use Rattle.gb_registry.specs.Faults.{ReportsFirst}
 use Rattle.gb_registry.specs.Projects.{Path, projects_of, settings_faults}
 use Rattle.gb_registry.specs.Source.{Source, source_of}
 use Rattle.gb_registry.specs.Tables.{Tables}
-use Rattle.gb_script.specs.Script.{SaysAsSettings}
+use Rattle.gb_script.specs.Script.{MeansAsSettings}
 use Rattle.gb_script.specs.declared.script.Statement.{Statement}
 use Rattle.gb_folder.specs.Faults.{IsOfMachine}
 use Rattle.gb_build.specs.Scripts.{FolderDeclares, ScriptsDeclare, script_places, settings_place}
-use Rattle.gb_build.specs.Texts.{TextSays}
+use Rattle.gb_build.specs.Texts.{TextMeans}
 
 -- what holds of a fault that is passed on holds of the answer
 pub handed : {T : Type 0} (Good : T → Type 0) (Bad : Fault → Type 0) (result : Result T Fault) (fault : Fault) → IsErrAnd result (λ reported. reported ≡ fault) → Bad fault → MatchResult result Good Bad
@@ -28,7 +28,7 @@ scripts_here new old folders projects said same are says =
     (subst (λ (folder : Contents). ScriptsDeclare folder.files (script_places folders) said) same says)
 
 module _ {M F Z S A : Type 0} (tables : Tables M F Z S A) (files : Files) (given : List (List ℕ × List ℕ)) (settings : List (List (List ℕ)))
-    (text : TextSays SaysAsSettings files settings_place (Ok settings)) (none : settings_faults settings ≡ []) where
+    (text : TextMeans MeansAsSettings files settings_place (Ok settings)) (none : settings_faults settings ≡ []) where
   -- the scripts have a fault
   pub scripts_refused : (fault : Fault) → ScriptsDeclare files (script_places (projects_of settings)) (Err fault) → FolderDeclares tables files given (Err fault)
   scripts_refused fault bad = inr (settings, (settings, text, (none, refl)), inl bad)

@@ -1,7 +1,7 @@
 -- The result of an edit.
 use Rattle.std.specs.Prelude.{Result, Ok, Err}
-use Rattle.gb_meaning.specs.declared.events.Answer.{Answer}
-use Rattle.gb_meaning.specs.declared.events.Answer.TheVariants as answers
+use Rattle.gb_semantics.specs.declared.events.Answer.{Answer}
+use Rattle.gb_semantics.specs.declared.events.Answer.TheVariants as answers
 use Rattle.gb_report.specs.declared.fault.Fault.{Fault}
 
 -- the result of an edit

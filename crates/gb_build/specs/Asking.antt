@@ -4,8 +4,8 @@ use Rattle.std.specs.List.{AllByRecursion, AllZip}
 use Rattle.gb_action.specs.Meanings.{Meanings}
 use Rattle.gb_exec.specs.Reports.{IsOf}
 use Rattle.gb_graph.specs.Answer.{IsPlanOf}
-use Rattle.gb_meaning.specs.Headline.{is_of_device}
-use Rattle.gb_meaning.specs.declared.events.Invocation.{Invocation}
+use Rattle.gb_semantics.specs.Headline.{is_of_device}
+use Rattle.gb_semantics.specs.declared.events.Invocation.{Invocation}
 use Rattle.gb_plan.specs.Graph.{Plan, Registry}
 use Rattle.gb_plan.specs.Ready.{Rows}
 use Rattle.gb_report.specs.declared.report.Report.{Report}

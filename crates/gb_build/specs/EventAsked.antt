@@ -5,10 +5,10 @@ use Rattle.gb_folder.specs.Device.{IsCalled}
 use Rattle.gb_folder.specs.Files.{is_own}
 use Rattle.gb_folder.specs.Limits.{max_file}
 use Rattle.gb_folder.specs.Semantics.{Answer}
-use Rattle.gb_meaning.specs.declared.events.Answer.{Answer as Reply}
-use Rattle.gb_meaning.specs.declared.events.Answer.TheVariants as answers
-use Rattle.gb_meaning.specs.declared.events.Event.{Event}
-use Rattle.gb_meaning.specs.declared.events.Event.TheVariants as events
+use Rattle.gb_semantics.specs.declared.events.Answer.{Answer as Reply}
+use Rattle.gb_semantics.specs.declared.events.Answer.TheVariants as answers
+use Rattle.gb_semantics.specs.declared.events.Event.{Event}
+use Rattle.gb_semantics.specs.declared.events.Event.TheVariants as events
 use Rattle.gb_registry.specs.Tables.{Tables}
 use Rattle.gb_build.specs.InvocationAsked.{InvocationRequests}
 

@@ -3,13 +3,13 @@ use Rattle.std.specs.Prelude.{◌≡◌, List, ◌∷◌, [], true, Result, IfEr
 use Rattle.gb_folder.specs.Calls.{Call, Device}
 use Rattle.gb_folder.specs.Device.{Leads}
 use Rattle.gb_folder.specs.Files.{Place, Tearing}
-use Rattle.gb_meaning.specs.Edits.{Shown}
-use Rattle.gb_meaning.specs.Events.{IsNotBuilt, is_read_first}
-use Rattle.gb_meaning.specs.Every.{PromiseHolds}
-use Rattle.gb_meaning.specs.Headline.{EventKeeps, HasFailed, InvocationHolds, answer_of, times_attributed}
-use Rattle.gb_meaning.specs.Kinds.{Kinds}
-use Rattle.gb_meaning.specs.declared.events.Event.TheVariants as events
-use Rattle.gb_meaning.specs.declared.events.Invocation.{Invocation}
+use Rattle.gb_semantics.specs.Edits.{Shown}
+use Rattle.gb_semantics.specs.Events.{IsNotBuilt, is_read_first}
+use Rattle.gb_semantics.specs.Every.{PromiseHolds}
+use Rattle.gb_semantics.specs.Headline.{EventKeeps, HasFailed, InvocationHolds, answer_of, times_attributed}
+use Rattle.gb_semantics.specs.Kinds.{Kinds}
+use Rattle.gb_semantics.specs.declared.events.Event.TheVariants as events
+use Rattle.gb_semantics.specs.declared.events.Invocation.{Invocation}
 use Rattle.gb_records.specs.Assumed.{IsAssumed}
 use Rattle.gb_registry.specs.Tables.{Tables}
 use Rattle.gb_report.specs.declared.fault.Fault.{Fault}

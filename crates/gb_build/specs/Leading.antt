@@ -1,13 +1,13 @@
 -- How one event continues a run, starting from any memory and any contents that were read before it.
 use Rattle.std.specs.Prelude.{◌++◌, Bool, List, Contains, IsTrue}
 use Rattle.gb_folder.specs.Files.{Bytes}
-use Rattle.gb_meaning.specs.declared.events.Answer.{Answer}
-use Rattle.gb_meaning.specs.declared.events.Event.{Event}
-use Rattle.gb_meaning.specs.Edits.{Shown}
-use Rattle.gb_meaning.specs.Events.{Setting, State, Step, world_in}
-use Rattle.gb_meaning.specs.Headline.{HoldsMemory, StillClear, contents_outside, observed_with, state_of}
-use Rattle.gb_meaning.specs.Memory.{Memory}
-use Rattle.gb_meaning.specs.TrueRecord.{memory_contents}
+use Rattle.gb_semantics.specs.declared.events.Answer.{Answer}
+use Rattle.gb_semantics.specs.declared.events.Event.{Event}
+use Rattle.gb_semantics.specs.Edits.{Shown}
+use Rattle.gb_semantics.specs.Events.{Setting, State, Step, world_in}
+use Rattle.gb_semantics.specs.Headline.{HoldsMemory, StillClear, contents_outside, observed_with, state_of}
+use Rattle.gb_semantics.specs.Memory.{Memory}
+use Rattle.gb_semantics.specs.TrueRecord.{memory_contents}
 
 -- each content of the one list is one of the other
 abbrev pub AreAmong : List Bytes → List Bytes → Type 0

@@ -2,8 +2,8 @@
 use Rattle.std.specs.Prelude.{ℕ, ◌≡◌, ◌⊎◌, ◌&&◌, Bool, not, IsTrue}
 use Rattle.gb_folder.specs.Files.{Place, is_own}
 use Rattle.gb_graph.specs.Answer.{IsRefusalOf}
-use Rattle.gb_meaning.specs.Events.{IsDeviceFault}
-use Rattle.gb_meaning.specs.declared.events.Invocation.{Invocation}
+use Rattle.gb_semantics.specs.Events.{IsDeviceFault}
+use Rattle.gb_semantics.specs.declared.events.Invocation.{Invocation}
 use Rattle.gb_plan.specs.Graph.{Registry}
 use Rattle.gb_report.specs.declared.fault.Fault.{Fault}
 use Rattle.gb_report.specs.declared.fault.Fault.TheVariants as faults

@@ -5,8 +5,8 @@ use Rattle.gb_action.specs.Meanings.{Meanings}
 use Rattle.gb_exec.specs.Asking.{ExecutionsRequest}
 use Rattle.gb_folder.specs.Calls.{Requests, no_change, Device}
 use Rattle.gb_history.specs.Record.{Record}
-use Rattle.gb_meaning.specs.Outline.{IsOutlinedBy}
-use Rattle.gb_meaning.specs.declared.events.Invocation.{Invocation}
+use Rattle.gb_semantics.specs.Outline.{IsOutlinedBy}
+use Rattle.gb_semantics.specs.declared.events.Invocation.{Invocation}
 use Rattle.gb_plan.specs.Graph.{Plan, Registry, order}
 use Rattle.gb_plan.specs.Ready.{Rows}
 use Rattle.gb_records.specs.Answered.{WasAnswered}

@@ -9,9 +9,9 @@ use Rattle.gb_registry.specs.Projects.{Path, projects_of, settings_faults}
 use Rattle.gb_registry.specs.Source.{Source, source_of}
 use Rattle.gb_registry.specs.Tables.{Tables}
 use Rattle.gb_report.specs.declared.fault.Fault.{Fault}
-use Rattle.gb_script.specs.Script.{Says, SaysAsSettings}
+use Rattle.gb_script.specs.Script.{HasMeaning, MeansAsSettings}
 use Rattle.gb_script.specs.declared.script.Statement.{Statement}
-use Rattle.gb_build.specs.Texts.{TextSays}
+use Rattle.gb_build.specs.Texts.{TextMeans}
 use Rattle.gb_build.specs.Executions.{InTurn, Passes}
 
 -- ---- The places of scripts
@@ -36,13 +36,13 @@ is_script_place place =
 -- what the settings of a folder declare, where nothing is wrong with what they include; or their first fault
 abbrev pub SettingsDeclare : Files → Result (List (List (List ℕ))) Fault → Type 0
 SettingsDeclare files said =
-    InTurn (TextSays SaysAsSettings files settings_place)
+    InTurn (TextMeans MeansAsSettings files settings_place)
     (λ settings. Passes (settings_faults settings) settings)
     said
 
 -- each of these texts is what the script at its place declares
 abbrev pub AreTexts : Files → List Place → List (List Statement) → Type 0
-AreTexts files places texts = AllZip (λ place text. TextSays Says files place (Ok text)) places texts
+AreTexts files places texts = AllZip (λ place text. TextMeans HasMeaning files place (Ok text)) places texts
 
 -- the fault is that of the script at one of these places, and the scripts at the places before it have none
 pub record IsFirstFault (files : Files) (places : List Place) (fault : Fault) : Type 0 where
@@ -52,7 +52,7 @@ pub record IsFirstFault (files : Files) (places : List Place) (fault : Fault) : 
   pub texts : List (List Statement)
   pub all : places ≡ prefix ++ place ∷ back
   pub before : AreTexts files prefix texts
-  pub here : TextSays Says files place (Err fault)
+  pub here : TextMeans HasMeaning files place (Err fault)
 
 -- what the scripts at these places declare, a text for each; or their first fault
 abbrev pub ScriptsDeclare : Files → List Place → Result (List (List Statement)) Fault → Type 0

@@ -24,22 +24,22 @@ unread_at place folders.TooLarge = faults.TooLong place
 unread_at place other = reported_at place other
 
 -- the notation: what bytes parse as, or their fault
-module _ {X : Type 0} (SaysAs : Bytes → Result (List X) ScriptFault → Type 0) where
+module _ {X : Type 0} (MeansAs : Bytes → Result (List X) ScriptFault → Type 0) where
   -- what a file at the place declares; where there is none, nothing is declared
-  abbrev pub FileSays : Place → Option Bytes → Result (List X) Fault → Type 0
-  FileSays place None said = said ≡ Ok []
-  FileSays place (Some bytes) (Ok said) = SaysAs bytes (Ok said)
-  FileSays place (Some bytes) (Err fault) =
-      (reported : ScriptFault) × SaysAs bytes (Err reported) × (fault ≡ in_file place reported)
+  abbrev pub FileMeans : Place → Option Bytes → Result (List X) Fault → Type 0
+  FileMeans place None said = said ≡ Ok []
+  FileMeans place (Some bytes) (Ok said) = MeansAs bytes (Ok said)
+  FileMeans place (Some bytes) (Err fault) =
+      (reported : ScriptFault) × MeansAs bytes (Err reported) × (fault ≡ in_file place reported)
 
   -- what the file at the place declares, or that another file is in its way
-  abbrev pub TextSays : Files → Place → Result (List X) Fault → Type 0
-  TextSays files place said =
+  abbrev pub TextMeans : Files → Place → Result (List X) Fault → Type 0
+  TextMeans files place said =
       ((is_blocked files place ≡ true) × (said ≡ Err (faults.Blocked place)))
-      ⊎ ((is_blocked files place ≡ false) × FileSays place (file_at files place) said)
+      ⊎ ((is_blocked files place ≡ false) × FileMeans place (file_at files place) said)
 
 -- A call returns what is declared, or its fault; or the fault of the machine that prevented it, between these
 -- counts.
 abbrev pub Reports : {X : Type 0} → (Result X Fault → Type 0) → ℕ → ℕ → Result X Fault → Type 0
-Reports Says before after result =
-    MatchResult result (λ said. Says (Ok said)) (λ fault. IsOfMachine before after fault ⊎ Says (Err fault))
+Reports Means before after result =
+    MatchResult result (λ said. Means (Ok said)) (λ fault. IsOfMachine before after fault ⊎ Means (Err fault))

@@ -8,20 +8,20 @@ pub use Rattle.gb_build.specs.InvocationAsked.{InvocationRequests}
 pub use Rattle.gb_build.specs.Registering.{registers_in, setting_of}
 pub use Rattle.gb_build.specs.Leading.{IsTransition}
 pub use Rattle.gb_exec.specs.Notifying.{Refuses}
-pub use Rattle.gb_meaning.specs.Edits.{Shown}
-pub use Rattle.gb_meaning.specs.Events.{IsBuild, IsNotBuilt, Setting, State, has_failure, is_read_first}
-pub use Rattle.gb_meaning.specs.Every.{IsFromScratch, UnconditionalRun, PromiseHolds, Succeeds}
-pub use Rattle.gb_meaning.specs.Assumed.{PremisesHoldInMemory, SomeKindsAgree, leaves_nothing}
-pub use Rattle.gb_meaning.specs.Headline.{Agrees, AllKeepElsewhere, Ear, EventKeeps, EventsHold}
-pub use Rattle.gb_meaning.specs.Headline.{HasFailed, HaveHeard, HaveHeardAll, HearsAll, InvocationHolds}
-pub use Rattle.gb_meaning.specs.Headline.{HoldsMemory, TornWritesAreDetected, answer_of, times_attributed}
-pub use Rattle.gb_meaning.specs.Headline.{times_attributed_in_all}
-pub use Rattle.gb_meaning.specs.Kinds.{Kind, Kinds}
-pub use Rattle.gb_meaning.specs.Memory.{Memory}
-pub use Rattle.gb_meaning.specs.Scratch.{from_scratch}
-pub use Rattle.gb_meaning.specs.declared.events.Answer.{Answer}
-pub use Rattle.gb_meaning.specs.declared.events.Event.{Event}
-pub use Rattle.gb_meaning.specs.declared.events.Invocation.{Invocation}
+pub use Rattle.gb_semantics.specs.Edits.{Shown}
+pub use Rattle.gb_semantics.specs.Events.{IsBuild, IsNotBuilt, Setting, State, has_failure, is_read_first}
+pub use Rattle.gb_semantics.specs.Every.{IsFromScratch, UnconditionalRun, PromiseHolds, Succeeds}
+pub use Rattle.gb_semantics.specs.Assumed.{PremisesHoldInMemory, SomeKindsAgree, leaves_nothing}
+pub use Rattle.gb_semantics.specs.Headline.{Agrees, AllKeepElsewhere, Ear, EventKeeps, EventsHold}
+pub use Rattle.gb_semantics.specs.Headline.{HasFailed, HaveHeard, HaveHeardAll, HearsAll, InvocationHolds}
+pub use Rattle.gb_semantics.specs.Headline.{HoldsMemory, TornWritesAreDetected, answer_of, times_attributed}
+pub use Rattle.gb_semantics.specs.Headline.{times_attributed_in_all}
+pub use Rattle.gb_semantics.specs.Kinds.{Kind, Kinds}
+pub use Rattle.gb_semantics.specs.Memory.{Memory}
+pub use Rattle.gb_semantics.specs.Scratch.{from_scratch}
+pub use Rattle.gb_semantics.specs.declared.events.Answer.{Answer}
+pub use Rattle.gb_semantics.specs.declared.events.Event.{Event}
+pub use Rattle.gb_semantics.specs.declared.events.Invocation.{Invocation}
 pub use Rattle.gb_plan.specs.Graph.{Registry, no_repeats}
 pub use Rattle.gb_printer.specs.Printing.{Prints, parts_text}
 pub use Rattle.gb_records.specs.Said.{IsText}

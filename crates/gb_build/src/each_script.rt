@@ -4,11 +4,11 @@ ghost use Rattle.std.specs.List.{list_all};
 ghost use Rattle.std.specs.Option.{option_copied};
 ghost use Rattle.gb_core.specs.Place.{is_place};
 ghost use Rattle.gb_folder.specs.Calls.{OnlyReads};
-ghost use Rattle.gb_script.specs.Script.{Says};
+ghost use Rattle.gb_script.specs.Script.{HasMeaning};
 ghost use Rattle.gb_folder.specs.Faults.{Blames, BlamesOnly, IsOfMachine};
 ghost use Rattle.gb_build.specs.Found.{WasParsed, WereParsed};
 ghost use Rattle.gb_build.specs.Scripts.{ScriptsDeclare, is_script_place, script_place, script_places};
-ghost use Rattle.gb_build.specs.Texts.{Reports, TextSays};
+ghost use Rattle.gb_build.specs.Texts.{Reports, TextMeans};
 
 use crate::one_script::script_at;
 use gb_core::path::ProjectPath;
@@ -56,9 +56,9 @@ fn read_script_of<F: Folder>(
     ensures blame { Blames result (F.device.failures folder.old) (F.device.failures folder.new) }
     ensures blamed { BlamesOnly is_script_place result }
     ensures said { F.device.faithful folder.new
-        → Reports (TextSays Says (F.device.contents folder.old).files (script_place project.now.1))
+        → Reports (TextMeans HasMeaning (F.device.contents folder.old).files (script_place project.now.1))
         (F.device.failures folder.old) (F.device.failures folder.new) result }
-    ensures parsed { IfOk result (WasParsed F.device Says folder.old folder.new
+    ensures parsed { IfOk result (WasParsed F.device HasMeaning folder.old folder.new
         (script_place project.now.1)) }
 {
     let place = script_place(alloc, project.1.as_ref())?;

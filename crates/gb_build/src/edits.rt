@@ -3,7 +3,7 @@ ghost use Rattle.std.specs.Prelude.{◌≡◌, ◌≤◌, MatchResult};
 ghost use Rattle.gb_folder.specs.Files.{SameTearing, is_own};
 ghost use Rattle.gb_folder.specs.Calls.{Removes, Requests, WhereKnown, Writes, takes_at};
 ghost use Rattle.gb_folder.specs.Limits.{max_file};
-ghost use Rattle.gb_meaning.specs.Edits.{LossStep, PutStep, RemoveStep, own_place};
+ghost use Rattle.gb_semantics.specs.Edits.{LossStep, PutStep, RemoveStep, own_place};
 ghost use Rattle.gb_folder.specs.Changes.{ChangesOnly};
 ghost use Rattle.gb_folder.specs.Faults.{Blames};
 ghost use Rattle.gb_build.specs.EventAsked.{RequestsOnce};

@@ -1,10 +1,10 @@
 //! Any list of edits and builds.
 ghost use Rattle.std.specs.Prelude.{◌≡◌, [], ◌∷◌, IfOk, OnErr, length, map};
-ghost use Rattle.gb_meaning.specs.Every.{PromiseHolds};
-ghost use Rattle.gb_meaning.specs.Headline.{AllKeepElsewhere, EventKeeps, EventsHold, HaveHeardAll};
-ghost use Rattle.gb_meaning.specs.Headline.{HasFailed, answer_of, times_attributed};
-ghost use Rattle.gb_meaning.specs.Headline.{times_attributed_in_all};
-ghost use Rattle.gb_meaning.specs.Kinds.{Kinds};
+ghost use Rattle.gb_semantics.specs.Every.{PromiseHolds};
+ghost use Rattle.gb_semantics.specs.Headline.{AllKeepElsewhere, EventKeeps, EventsHold, HaveHeardAll};
+ghost use Rattle.gb_semantics.specs.Headline.{HasFailed, answer_of, times_attributed};
+ghost use Rattle.gb_semantics.specs.Headline.{times_attributed_in_all};
+ghost use Rattle.gb_semantics.specs.Kinds.{Kinds};
 ghost use Rattle.gb_records.specs.Assumed.{IsAssumed};
 ghost use Rattle.gb_registry.specs.Tables.{tables_of};
 ghost use Rattle.gb_build.specs.Registering.{registers_in, setting_of};
@@ -17,12 +17,12 @@ use crate::invoking::invoke;
 use gb_action::actions::Actions;
 use gb_exec::listener::TaskListener;
 use gb_folder::folder::Folder;
-use gb_meaning::events::{Answer, Event};
 use gb_printer::printer::Silent;
 use gb_provider::transforms::Transforms;
 use gb_registry::tables::Tables;
 use gb_report::fault::Fault;
 use gb_report::report::Report;
+use gb_semantics::events::{Answer, Event};
 use std::alloc::{AllocError, Global};
 
 /// Executes the events in their order, and returns an answer to each. Nothing is printed. It fails
@@ -37,10 +37,10 @@ pub fn run_events<A: Actions, T: Transforms, F: Folder, L: TaskListener>(
 ) -> Result<Vec<Answer>, AllocError>
     ensures unbegun { OnErr result (folder.new ≡ folder.old) }
     ensures unnotified { OnErr result (listeners.new ≡ listeners.old) }
-    // Over any folder: an edit makes at most one call, at its own place, and a loss removes files in
-    // `.gb` alone. A build requests a write or a removal only at or under an output of a task of its
-    // plan or at the record of one, and the text of such a record is that of a run of the task. A
-    // refused build and a dry run request none. By `events_are_calls` these are a list of calls.
+    // Over any folder: an edit makes at most one call, at its own place, and a loss removes files
+    // in `.gb` alone. A build requests a write or a removal only at or under an output of a task of
+    // its plan or at the record of one, and the text of such a record is that of a run of the task.
+    // A refused build and a dry run request none. By `events_are_calls` these are a list of calls.
     ensures requests { IfOk result (λ answers. EventsRequest F.device
         (tables_of T.meanings A.meanings tables.now) events.now answers.items folder.old folder.new) }
     // One answer for each event.
@@ -53,13 +53,13 @@ pub fn run_events<A: Actions, T: Transforms, F: Folder, L: TaskListener>(
     // Each listener was notified of the builds, one after another.
     ensures heard { IfOk result (λ answers.
         HaveHeardAll answers.items (map L.ear listeners.old.items) (map L.ear listeners.new.items)) }
-    // Where contents are known: whatever fails, a build changes nothing but `.gb` and the build
-    // folders of its projects.
+    // Where contents are known after the events (`faithful`: each call was answered by them):
+    // whatever fails, a build changes nothing but `.gb` and the build folders of its projects.
     ensures elsewhere { F.device.faithful folder.new → IfOk result (λ answers.
         AllKeepElsewhere (registers_in (tables_of T.meanings A.meanings tables.now)) events.now answers.items
         (F.device.contents folder.old) (F.device.contents folder.new)) }
-    // Where contents are known, kinds agree and a stopped write leaves no false record
-    // (`IsAssumed`), this is a run of the events by its definition.
+    // Where contents are known after the events, kinds agree and a stopped write leaves no false
+    // record (`IsAssumed`), this is an execution of the list of events by its definition.
     ensures holds { F.device.faithful folder.new → IfOk result (λ answers. (kinds : Kinds)
         → IsAssumed A.meanings tables.now.actions kinds (F.device.may_leave folder.old)
         → EventsHold
@@ -67,9 +67,9 @@ pub fn run_events<A: Actions, T: Transforms, F: Folder, L: TaskListener>(
         (record { contents = F.device.contents folder.old; failures = F.device.failures folder.old })
         events.now answers.items
         (record { contents = F.device.contents folder.new; failures = F.device.failures folder.new })) }
-    // So, if also no two contents share a digest, each event is a step of the definition, and each
-    // build in which no task failed leaves what a build from scratch makes, whichever true records
-    // the first event starts from.
+    // Where contents are known after the events, under the same premises: if no two contents share
+    // a digest, each event is a step of the definition, and each build in which no task failed
+    // leaves what a build from scratch makes, whichever true records the first event starts from.
     ensures promise { F.device.faithful folder.new → IfOk result (λ answers. (kinds : Kinds)
         → IsAssumed A.meanings tables.now.actions kinds (F.device.may_leave folder.old)
         → PromiseHolds

@@ -3,10 +3,10 @@ ghost use Rattle.std.specs.Prelude.{◌≡◌, ◌≤◌, ◌&&◌, ℕ, List, O
 ghost use Rattle.std.specs.Prelude.{IfOk, IsTrue, OnErr, OnOk};
 ghost use Rattle.gb_declare.specs.Registered.{registry_said};
 ghost use Rattle.gb_folder.specs.Files.{is_own};
-ghost use Rattle.gb_meaning.specs.declared.events.Event.TheVariants as events;
-ghost use Rattle.gb_meaning.specs.Headline.{HaveHeard, KeepsElsewhere};
-ghost use Rattle.gb_meaning.specs.Headline.{HasFailed, answer_of, times_attributed};
-ghost use Rattle.gb_meaning.specs.Kinds.{Kinds};
+ghost use Rattle.gb_semantics.specs.declared.events.Event.TheVariants as events;
+ghost use Rattle.gb_semantics.specs.Headline.{HaveHeard, KeepsElsewhere};
+ghost use Rattle.gb_semantics.specs.Headline.{HasFailed, answer_of, times_attributed};
+ghost use Rattle.gb_semantics.specs.Kinds.{Kinds};
 ghost use Rattle.gb_plan.specs.Graph.{IsRegistry};
 ghost use Rattle.gb_printer.specs.Printing.{Prints, parts_text};
 ghost use Rattle.gb_records.specs.Assumed.{IsAssumed};
@@ -25,7 +25,6 @@ use gb_core::name::Name;
 use gb_core::text::Text;
 use gb_exec::listener::TaskListener;
 use gb_folder::folder::Folder;
-use gb_meaning::events::{Invocation, Properties};
 use gb_printer::printer::Printer;
 use gb_project::script_tasks::ScriptTasks;
 use gb_provider::transforms::Transforms;
@@ -33,6 +32,7 @@ use gb_registry::configured::Configured;
 use gb_registry::tables::Tables;
 use gb_report::fault::Fault;
 use gb_report::report::Report;
+use gb_semantics::events::{Invocation, Properties};
 use std::alloc::{AllocError, Global};
 
 /// Reads the scripts of a folder with the values that the invocation gives, and builds what is
@@ -40,7 +40,8 @@ use std::alloc::{AllocError, Global};
 /// and its head line and its lines are printed as soon as its execution has ended. The build is
 /// refused before the first task, with nothing changed or printed and no listener notified, for the
 /// first fault of the scripts, of the requested names or of the plan, where memory runs out, or
-/// where scripts or records cannot be read. `KeepsPromise` has the promise, field by field.
+/// where scripts or records cannot be read. `specs/Invoking.antt` has both promises, field by
+/// field: `IsInvocation` over any folder, `KeepsPromise` where contents are known.
 pub fn invoke<A: Actions, T: Transforms, F: Folder, L: TaskListener, P: Printer>(
     alloc: Global,
     folder: &mut F,
@@ -53,9 +54,9 @@ pub fn invoke<A: Actions, T: Transforms, F: Folder, L: TaskListener, P: Printer>
     // answer may be.
     ensures does { IsInvocation F.device
         (tables_of T.meanings A.meanings tables.now) invocation.now result folder.old folder.new }
-    // Where contents are known: what it promises of them. A build in which no task failed leaves what
-    // one from scratch makes, if kinds agree, a stopped write leaves no false record, the first
-    // records are true, and no two contents share a digest.
+    // Where contents are known: `KeepsPromise`. If kinds agree and a stopped write leaves no false
+    // record (`IsAssumed`), the first records are true, and no two contents share a digest, a build
+    // in which no task failed leaves what one from scratch makes.
     ensures promise { F.device.faithful folder.new → KeepsPromise (tables_of T.meanings A.meanings tables.now)
         (F.device.may_leave folder.old) invocation.now
         (record { contents = F.device.contents folder.old; failures = F.device.failures folder.old }) result
@@ -65,7 +66,7 @@ pub fn invoke<A: Actions, T: Transforms, F: Folder, L: TaskListener, P: Printer>
     ensures heard { IfOk result (λ report.
         HaveHeard report (map L.ear listeners.old.items) (map L.ear listeners.new.items)) }
     ensures unnotified { OnErr result (listeners.new ≡ listeners.old) }
-    // The parts of its tasks were printed, or a beginning of them.
+    // The parts of the tasks in the report were printed, in its order, or a beginning of them.
     ensures printed { IfOk result (λ report.
         Prints P.contents P.whole (parts_text report) printer.old printer.new) }
     ensures unprinted { OnErr result (printer.new ≡ printer.old) }

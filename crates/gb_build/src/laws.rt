@@ -3,11 +3,11 @@ ghost use Rattle.std.specs.Prelude.{◌≡◌, List, Ok, Result, true};
 ghost use Rattle.gb_exec.specs.Building.{is_of_executions};
 ghost use Rattle.gb_folder.specs.Calls.{Call, Requests, changes_at, no_change};
 ghost use Rattle.gb_folder.specs.Device.{Leads};
-ghost use Rattle.gb_meaning.specs.Kinds.{Kinds};
-ghost use Rattle.gb_meaning.specs.Pinned.{HaveOnePlan};
-ghost use Rattle.gb_meaning.specs.declared.events.Answer.{Answer};
-ghost use Rattle.gb_meaning.specs.declared.events.Event.{Event};
-ghost use Rattle.gb_meaning.specs.declared.events.Invocation.{Invocation};
+ghost use Rattle.gb_semantics.specs.Kinds.{Kinds};
+ghost use Rattle.gb_semantics.specs.Pinned.{HaveOnePlan};
+ghost use Rattle.gb_semantics.specs.declared.events.Answer.{Answer};
+ghost use Rattle.gb_semantics.specs.declared.events.Event.{Event};
+ghost use Rattle.gb_semantics.specs.declared.events.Invocation.{Invocation};
 ghost use Rattle.gb_registry.specs.Tables.{Tables};
 ghost use Rattle.gb_report.specs.declared.fault.Fault.{Fault};
 ghost use Rattle.gb_report.specs.declared.report.Report.{Report};
@@ -31,7 +31,7 @@ pub fn own_files_declare_nothing<A: Actions, T: Transforms>()
 {}
 
 /// What the scripts of a folder declare and what is requested of them determine one plan. So the
-/// premise of the law `states_are_one` of `gb_meaning` holds of every run over scripts.
+/// premise of the law `states_are_one` of `gb_semantics` holds of every run over scripts.
 pub fn scripts_give_one_plan<A: Actions, T: Transforms, F: Folder>()
     ensures { (tables : Tables T.Map T.FlatMap T.Zip T.Test A.Stored) (kinds : Kinds) (folder : F)
         → HaveOnePlan (setting_of tables kinds (F.device.may_leave folder)) }

@@ -8,7 +8,7 @@
 //! `builtin_functions!` of `gb_answer` make them.
 //!
 //! This crate also re-exports the single calls of which a build consists, in modules by purpose:
-//! [`scripts`], [`plans`], [`trees`] and [`records`]
+//! [`read_scripts`], [`plans`], [`trees`] and [`records`]
 //! (`docs/CRATES.md#from-the-task-at-hand-to-the-call`).
 //!
 //! Inside, a build has three steps. [`workspace`] reads the settings and then, if they have no
@@ -39,13 +39,13 @@
 //!   and has its reason, a dry run changes nothing, and a build changes only `.gb` and the build
 //!   folders of its projects. With the above, this is `KeepsPromise` of `invoke`.
 //! - **Over any folder**: what is asked for, which tasks start and what each may answer
-//!   (`IsInvocation`), what listeners hear and what is printed. While the folder's count of failures
-//!   is below 2^64 - 1, no more faults are attributed to the device than it had, and never one of a
-//!   script or a task.
+//!   (`IsInvocation`), what listeners hear and what is printed. While the folder's count of
+//!   failures is below 2^64 - 1, no more faults are attributed to the device than it had, and never
+//!   one of a script or a task.
 //!
 //! Laws: `folders_declare_one_thing` (a folder declares one thing, or has one fault),
-//! `own_files_declare_nothing` (the files of `.gb` do not count for that), `scripts_give_one_plan` (so
-//! the premise of `states_are_one` holds of scripts).
+//! `own_files_declare_nothing` (the files of `.gb` do not count for that), `scripts_give_one_plan`
+//! (so the premise of `states_are_one` holds of scripts).
 //!
 //! What was set aside: `docs/DECISIONS.md#executions-and-runs`.
 #![tactic(auto)]
@@ -59,9 +59,9 @@ pub mod laws;
 pub mod nothing;
 mod one_script;
 pub mod plans;
+pub mod read_scripts;
 pub mod records;
 mod requested;
-pub mod scripts;
 pub mod trees;
 pub mod workspace;
 
@@ -70,12 +70,13 @@ pub use crate::invoking::invoke;
 pub use crate::nothing::run_from_nothing;
 pub use gb_action::change::{Change, InputChanges};
 pub use gb_action::list::ActionList;
-pub use gb_action::output::Form;
+pub use gb_action::output_files::Form;
 pub use gb_action::reply::{ActionFault, Reply};
 pub use gb_action::request::Request;
 pub use gb_action::run::{accepts, run_action};
 pub use gb_action::shape::{Arg, ArgList, Fit, Parameter, Shape};
 pub use gb_action::snapshot::Snapshot;
+pub use gb_arguments::arguments::read as read_words;
 pub use gb_core::bytes::Bytes;
 pub use gb_core::name::Name;
 pub use gb_core::path::{ProjectPath, TaskPath};
@@ -92,7 +93,6 @@ pub use gb_folder::memory::MemoryFolder;
 pub use gb_graph::tasks::Tasks;
 pub use gb_history::decide::{Decision, Present};
 pub use gb_history::history::History;
-pub use gb_meaning::events::{Answer, Event, Invocation, Properties};
 pub use gb_plan::task::TaskDeclaration;
 pub use gb_project::script_tasks::ScriptTasks;
 pub use gb_project::workspaces::Workspace;
@@ -105,6 +105,6 @@ pub use gb_registry::registry::Registry;
 pub use gb_registry::tables::Tables;
 pub use gb_report::render::{render, render_fault};
 pub use gb_script::script::{Script, Settings};
+pub use gb_semantics::events::{Answer, Event, Invocation, Properties};
 pub use gb_tree::pattern::Pattern;
 pub use gb_tree::prints::Prints;
-pub use gb_words::words::read as read_words;

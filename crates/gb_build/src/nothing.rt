@@ -1,9 +1,9 @@
 //! Events over a folder in memory that is empty at first.
 ghost use Rattle.std.specs.Prelude.{[], IfOk};
-ghost use Rattle.gb_meaning.specs.Every.{PromiseHolds};
-ghost use Rattle.gb_meaning.specs.Assumed.{leaves_nothing};
-ghost use Rattle.gb_meaning.specs.Headline.{Agrees, HoldsMemory};
-ghost use Rattle.gb_meaning.specs.Kinds.{Kinds};
+ghost use Rattle.gb_semantics.specs.Every.{PromiseHolds};
+ghost use Rattle.gb_semantics.specs.Assumed.{leaves_nothing};
+ghost use Rattle.gb_semantics.specs.Headline.{Agrees, HoldsMemory};
+ghost use Rattle.gb_semantics.specs.Kinds.{Kinds};
 ghost use Rattle.gb_registry.specs.Tables.{tables_of};
 ghost use Rattle.gb_build.specs.Registering.{setting_of};
 
@@ -11,10 +11,10 @@ use crate::events::run_events;
 use gb_action::actions::Actions;
 use gb_exec::listener::TaskListener;
 use gb_folder::memory::MemoryFolder;
-use gb_meaning::events::{Answer, Event};
-use gb_meaning::laws::some_kinds_agree;
 use gb_provider::transforms::Transforms;
 use gb_registry::tables::Tables;
+use gb_semantics::events::{Answer, Event};
+use gb_semantics::laws::some_kinds_agree;
 use std::alloc::{AllocError, Global};
 
 /// Executes the events in their order over an empty folder in memory, and returns an answer to

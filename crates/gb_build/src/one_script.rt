@@ -1,11 +1,11 @@
 //! Reads the texts of settings and scripts from their files.
 ghost use Rattle.std.specs.Prelude.{◌≡◌, ◌⊎◌, Some, Ok, Err, IfOk, MatchResult};
 ghost use Rattle.gb_folder.specs.Calls.{OnlyReads};
-ghost use Rattle.gb_script.specs.Script.{Says, SaysAsSettings};
+ghost use Rattle.gb_script.specs.Script.{HasMeaning, MeansAsSettings};
 ghost use Rattle.gb_folder.specs.Changes.{is_at};
 ghost use Rattle.gb_folder.specs.Faults.{Blames, BlamesOnly};
 ghost use Rattle.gb_build.specs.Found.{WasParsed};
-ghost use Rattle.gb_build.specs.Texts.{FileSays, Reports, TextSays, in_file, unread_at};
+ghost use Rattle.gb_build.specs.Texts.{FileMeans, Reports, TextMeans, in_file, unread_at};
 
 use gb_core::place::Place;
 use gb_folder::calls::read;
@@ -27,10 +27,10 @@ pub fn settings_at<F: Folder>(
     ensures blame { Blames result (F.device.failures folder.old) (F.device.failures folder.new) }
     ensures blamed { BlamesOnly (is_at place) result }
     ensures said { F.device.faithful folder.new
-        → Reports (TextSays SaysAsSettings (F.device.contents folder.old).files place)
+        → Reports (TextMeans MeansAsSettings (F.device.contents folder.old).files place)
         (F.device.failures folder.old) (F.device.failures folder.new) result }
     // Over any folder: a call returned this text.
-    ensures parsed { IfOk result (WasParsed F.device SaysAsSettings folder.old
+    ensures parsed { IfOk result (WasParsed F.device MeansAsSettings folder.old
         folder.new place) }
 {
     match read(alloc, folder, &place, MAX_SCRIPT as u64) {
@@ -48,10 +48,10 @@ pub fn script_at<F: Folder>(alloc: Global, folder: &mut F, place: Place) -> Resu
     ensures blame { Blames result (F.device.failures folder.old) (F.device.failures folder.new) }
     ensures blamed { BlamesOnly (is_at place) result }
     ensures said { F.device.faithful folder.new
-        → Reports (TextSays Says (F.device.contents folder.old).files place)
+        → Reports (TextMeans HasMeaning (F.device.contents folder.old).files place)
         (F.device.failures folder.old) (F.device.failures folder.new) result }
     // Over any folder: a call returned this text.
-    ensures parsed { IfOk result (WasParsed F.device Says folder.old folder.new
+    ensures parsed { IfOk result (WasParsed F.device HasMeaning folder.old folder.new
         place) }
 {
     match read(alloc, folder, &place, MAX_SCRIPT as u64) {
@@ -66,9 +66,9 @@ pub fn script_at<F: Folder>(alloc: Global, folder: &mut F, place: Place) -> Resu
 /// Parses the bytes of the file at this place as settings.
 fn settings_in(alloc: Global, bytes: &[u8], place: Place) -> Result<Settings, Fault>
     ensures { MatchResult result
-        (λ settings. SaysAsSettings bytes.now (Ok settings))
+        (λ settings. MeansAsSettings bytes.now (Ok settings))
         (λ fault. (fault ≡ Fault.OutOfMemory)
-        ⊎ FileSays SaysAsSettings place (Some bytes.now) (Err fault)) }
+        ⊎ FileMeans MeansAsSettings place (Some bytes.now) (Err fault)) }
 {
     match read_settings(alloc, bytes) {
         Ok(settings) => Ok(settings),
@@ -79,8 +79,8 @@ fn settings_in(alloc: Global, bytes: &[u8], place: Place) -> Result<Settings, Fa
 /// Parses the bytes of the file at this place as a script.
 fn script_in(alloc: Global, bytes: &[u8], place: Place) -> Result<Script, Fault>
     ensures { MatchResult result
-        (λ script. Says bytes.now (Ok script))
-        (λ fault. (fault ≡ Fault.OutOfMemory) ⊎ FileSays Says place (Some bytes.now) (Err fault)) }
+        (λ script. HasMeaning bytes.now (Ok script))
+        (λ fault. (fault ≡ Fault.OutOfMemory) ⊎ FileMeans HasMeaning place (Some bytes.now) (Err fault)) }
 {
     match read_script(alloc, bytes) {
         Ok(script) => Ok(script),

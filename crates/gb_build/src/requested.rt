@@ -1,11 +1,11 @@
 //! One build of what is requested.
 ghost use Rattle.std.specs.Prelude.{◌≡◌, ◌≤◌, Ok, map, true, IfErr, IfOk, OnErr};
 ghost use Rattle.gb_folder.specs.Calls.{WhereKnown};
-ghost use Rattle.gb_meaning.specs.declared.events.Event.TheVariants as events;
-ghost use Rattle.gb_meaning.specs.Headline.{HasFailed, HaveHeard, InvocationHolds};
-ghost use Rattle.gb_meaning.specs.Headline.{answer_of, is_of_build, times_attributed};
-ghost use Rattle.gb_meaning.specs.Kinds.{Kinds};
-ghost use Rattle.gb_meaning.specs.TrueRecord.{outside};
+ghost use Rattle.gb_semantics.specs.declared.events.Event.TheVariants as events;
+ghost use Rattle.gb_semantics.specs.Headline.{HasFailed, HaveHeard, InvocationHolds};
+ghost use Rattle.gb_semantics.specs.Headline.{answer_of, is_of_build, times_attributed};
+ghost use Rattle.gb_semantics.specs.Kinds.{Kinds};
+ghost use Rattle.gb_semantics.specs.TrueRecord.{outside};
 ghost use Rattle.gb_printer.specs.Printing.{Prints, parts_text};
 ghost use Rattle.gb_records.specs.Assumed.{IsAssumed};
 ghost use Rattle.gb_folder.specs.Changes.{ChangesOnly};
@@ -23,10 +23,10 @@ use gb_exec::listener::TaskListener;
 use gb_folder::folder::Folder;
 use gb_graph::plan::plan;
 use gb_graph::tasks::Tasks;
-use gb_meaning::events::Invocation;
 use gb_printer::printer::Printer;
 use gb_report::fault::Fault;
 use gb_report::report::Report;
+use gb_semantics::events::Invocation;
 use std::alloc::Global;
 
 /// Builds what is requested: plans it, reads the records of the plan's tasks, and executes the

@@ -2,12 +2,12 @@
 ghost use Rattle.std.specs.Prelude.{◌≡◌, ◌⊎◌, Ok, Err, IfOk, MatchResult};
 ghost use Rattle.gb_folder.specs.Calls.{OnlyReads};
 ghost use Rattle.gb_registry.specs.Tables.{tables_of};
-ghost use Rattle.gb_script.specs.Script.{SaysAsSettings};
+ghost use Rattle.gb_script.specs.Script.{MeansAsSettings};
 ghost use Rattle.gb_folder.specs.Changes.{is_at};
 ghost use Rattle.gb_folder.specs.Faults.{Blames, BlamesOnly, IsOfMachine};
 ghost use Rattle.gb_build.specs.Found.{IsDeclared, WasParsed};
 ghost use Rattle.gb_build.specs.Scripts.{FolderDeclares, is_script_place, settings_place};
-ghost use Rattle.gb_build.specs.Texts.{Reports, TextSays};
+ghost use Rattle.gb_build.specs.Texts.{Reports, TextMeans};
 
 use crate::each_script::read_scripts;
 use crate::one_script::settings_at;
@@ -70,9 +70,9 @@ pub fn read_settings_of<F: Folder>(alloc: Global, folder: &mut F) -> Result<Sett
     ensures blamed { BlamesOnly (is_at settings_place) result }
     // Where contents are known, the result is what the file declares, or a fault of the machine.
     ensures said { F.device.faithful folder.new
-        → Reports (TextSays SaysAsSettings (F.device.contents folder.old).files settings_place)
+        → Reports (TextMeans MeansAsSettings (F.device.contents folder.old).files settings_place)
         (F.device.failures folder.old) (F.device.failures folder.new) result }
-    ensures parsed { IfOk result (WasParsed F.device SaysAsSettings folder.old
+    ensures parsed { IfOk result (WasParsed F.device MeansAsSettings folder.old
         folder.new settings_place) }
 {
     let place = settings_place(alloc)?;

@@ -2,9 +2,9 @@
 use crate::building::{is_reported, put_bytes, words_of};
 use crate::offering::offered;
 use gb_action::actions::Actions;
-use gb_ask_command::words::{Colouring, Mode, Style};
-use gb_ask_command::{fmt, graph, places, status, tasks};
-use gb_command::run::run;
+use gb_ask_command::arguments::{Colouring, Mode, Style};
+use gb_ask_command::{fmt, graph, place_query, status, tasks};
+use gb_cli::program::run;
 use gb_folder::memory::MemoryFolder;
 use gb_kinds::builtin::Builtin;
 use gb_printer::page::Page;
@@ -274,7 +274,7 @@ fn related<A: Actions, T: Transforms>(
     let mut folder = site(alloc)?;
     let words = words_of(alloc, asked.2)?;
     let mut out = Vec::new(alloc);
-    places::run(
+    place_query::run(
         alloc,
         &mut folder,
         asked.1,

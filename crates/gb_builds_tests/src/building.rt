@@ -1,16 +1,16 @@
 //! Events over a folder, and their results.
 use gb_action::actions::Actions;
+use gb_arguments::arguments::read;
 use gb_build::events::run_events;
 use gb_core::bytes::Bytes;
 use gb_core::place::Place;
 use gb_exec::listener::{Recorder, TaskListener};
 use gb_folder::folder::Folder;
 use gb_folder::memory::MemoryFolder;
-use gb_meaning::events::{Answer, Event};
 use gb_provider::transforms::Transforms;
 use gb_registry::tables::Tables;
 use gb_report::render::{render, render_fault};
-use gb_words::words::read;
+use gb_semantics::events::{Answer, Event};
 use std::alloc::Global;
 use std::test::Fail;
 

@@ -3,7 +3,7 @@ use crate::building::{put_bytes, words_of};
 use crate::ending::FailingWriter;
 use crate::offering::offered;
 use gb_action::actions::Actions;
-use gb_command::run::run;
+use gb_cli::program::run;
 use gb_core::place::Place;
 use gb_disk::disk::DiskFolder;
 use gb_folder::folder::Folder;

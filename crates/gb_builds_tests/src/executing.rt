@@ -8,7 +8,7 @@ use gb_action::list::ActionList;
 use gb_action::table::ActionTable;
 use gb_action::values::NamedValues;
 use gb_core::path::TaskPath;
-use gb_core::tasks::TaskPaths;
+use gb_core::task_paths::TaskPaths;
 use gb_exec::building::execute;
 use gb_exec::listener::{Recorder, TaskListener};
 use gb_folder::memory::MemoryFolder;

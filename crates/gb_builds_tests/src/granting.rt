@@ -6,9 +6,9 @@ use gb_build::nothing::run_from_nothing;
 use gb_exec::listener::Recorder;
 use gb_folder::memory::MemoryFolder;
 use gb_kinds::builtin::Builtin;
-use gb_meaning::events::Answer;
 use gb_provider::transforms::Transforms;
 use gb_registry::tables::Tables;
+use gb_semantics::events::Answer;
 use std::alloc::Global;
 use std::test::Fail;
 

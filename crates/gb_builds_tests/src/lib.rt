@@ -1,9 +1,12 @@
 //! Tests of whole builds: of a plan and of listeners (`gb_exec`), of events and invocations
-//! (`gb_build`), of builds that keep their calls (`gb_answers`), of command lines (`gb_command`,
+//! (`gb_build`), of builds that keep their calls (`gb_answers`), of command lines (`gb_cli`,
 //! `gb_ask_command`), and of replays that do not read all their lines (`gb_lines`; the run of
 //! `gb_replay` makes the others); and of a site with kinds of one's own. They are in one separate
 //! crate, so that neither the proofs of these crates nor the compilation of the sources of a
 //! whole-build test is paid for more than once.
+//!
+//! Set aside: tests of what a contract says, since the gate pays for a test as for any function;
+//! and wrong edits, since the gate tries an edit on a crate without its tests.
 #![tactic(auto)]
 
 #[cfg(test)]

@@ -1,6 +1,6 @@
 //! A listener that refuses one of its calls, and the notifications of listeners.
 ghost use Rattle.std.specs.Prelude.{◌≡◌, ◌++◌, [], ◌∷◌, OnErr, OnOk};
-ghost use Rattle.gb_meaning.specs.Headline.{counted};
+ghost use Rattle.gb_semantics.specs.Headline.{counted};
 ghost use Rattle.gb_report.specs.declared.report.Heard.TheVariants.{Start, End};
 
 use gb_core::path::TaskPath;

@@ -1,6 +1,6 @@
 //! Several kinds of listeners next to each other.
 ghost use Rattle.std.specs.Prelude.{◌≡◌, [], IsErr};
-ghost use Rattle.gb_meaning.specs.Headline.{counted};
+ghost use Rattle.gb_semantics.specs.Headline.{counted};
 
 use crate::building::is_reported;
 use crate::listening::heard_by_each;

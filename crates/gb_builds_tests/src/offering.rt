@@ -3,12 +3,12 @@ use gb_action::actions::Actions;
 use gb_action::table::ActionTable;
 use gb_core::name::Name;
 use gb_kinds::builtin::StoredAction;
-use gb_kinds::files::{concat, copy_files};
+use gb_kinds::file_kinds::{concat, copy_files};
 use gb_kinds::function_table::FunctionTable;
 use gb_kinds::shapes::{
     CONCAT, COPY_FILES, WRITE_TEXT, concat_shape, copy_files_shape, write_text_shape,
 };
-use gb_kinds::texts::write_text;
+use gb_kinds::text_kinds::write_text;
 use gb_provider::transforms::Transforms;
 use std::alloc::Global;
 use std::test::Fail;

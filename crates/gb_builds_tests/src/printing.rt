@@ -2,7 +2,7 @@
 use crate::building::words_of;
 use crate::offering::offered;
 use gb_action::actions::Actions;
-use gb_command::run::run;
+use gb_cli::program::run;
 use gb_core::place::Place;
 use gb_folder::folder::Folder;
 use gb_folder::memory::MemoryFolder;

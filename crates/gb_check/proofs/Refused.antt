@@ -9,7 +9,7 @@ use Rattle.gb_folder.specs.declared.folder.FolderFault.TheVariants as folders
 use Rattle.gb_registry.specs.Projects.{Path}
 use Rattle.gb_report.specs.declared.fault.Fault.{Fault}
 use Rattle.gb_report.specs.declared.fault.Fault.TheVariants as faults
-use Rattle.gb_script.specs.Script.{Says}
+use Rattle.gb_script.specs.Script.{HasMeaning}
 use Rattle.gb_script.specs.declared.fault.ScriptFault.{ScriptFault}
 use Rattle.gb_script.specs.declared.fault.ScriptFault.TheVariants as texts
 use Rattle.gb_script.specs.declared.script.Statement.{Statement}
@@ -42,7 +42,7 @@ module _ (files : Files) (place : Place) where
 
   -- the bytes of the file are no script
   pub no_script_there : (before after : ℕ) (bytes : Bytes) (reported : Fault) → file_at files place ≡ Some bytes
-      → (reported ≡ faults.OutOfMemory) ⊎ ((of : ScriptFault) × Says bytes (Err of) × (reported ≡ in_file place of)) → IsOfMachine before after reported ⊎ HasTextFault files place reported
+      → (reported ≡ faults.OutOfMemory) ⊎ ((of : ScriptFault) × HasMeaning bytes (Err of) × (reported ≡ in_file place of)) → IsOfMachine before after reported ⊎ HasTextFault files place reported
   no_script_there before after bytes reported at (inl memory) = inl (inl memory)
   no_script_there before after bytes reported at (inr (of, says, is)) = inr (no_script bytes of at says is)
 

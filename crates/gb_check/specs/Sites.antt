@@ -12,7 +12,7 @@ use Rattle.gb_registry.specs.Tables.{Tables}
 use Rattle.gb_report.specs.declared.fault.Fault.{Fault}
 use Rattle.gb_report.specs.declared.fault.Fault.TheVariants as faults
 use Rattle.gb_script.specs.Lines.{AreLinesOf}
-use Rattle.gb_script.specs.Script.{Says}
+use Rattle.gb_script.specs.Script.{HasMeaning}
 use Rattle.gb_script.specs.declared.fault.ScriptFault.{ScriptFault}
 use Rattle.gb_script.specs.declared.fault.ScriptFault.TheVariants as texts
 use Rattle.gb_script.specs.declared.script.Statement.{Statement}
@@ -83,8 +83,8 @@ pub data HasTextFault (files : Files) (place : Place) (fault : Fault) : Type 0 w
   no_place : is_place place ≡ false → fault ≡ faults.BadPlace (codes "build.gb")
       → HasTextFault files place fault
   blocked : IsTrue (is_blocked files place) → fault ≡ faults.Blocked place → HasTextFault files place fault
-  no_script : (bytes : Bytes) (of : ScriptFault) → file_at files place ≡ Some bytes → Says bytes (Err of)
-      → fault ≡ in_file place of → HasTextFault files place fault
+  no_script : (bytes : Bytes) (of : ScriptFault) → file_at files place ≡ Some bytes
+      → HasMeaning bytes (Err of) → fault ≡ in_file place of → HasTextFault files place fault
 
 -- one of these scripts has no lines, for this reason
 pub record IsUnread (files : Files) (scripts : List (Path × List Statement)) (fault : Fault) : Type 0 where

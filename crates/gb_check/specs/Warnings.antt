@@ -17,7 +17,7 @@ use Rattle.gb_script.specs.declared.script.Statement.TheVariants as statements
 use Rattle.gb_check.specs.Findings.{warning}
 use Rattle.gb_check.specs.declared.findings.Problem.TheVariants as problems
 use Rattle.gb_check.specs.declared.findings.Finding.{Finding}
-use Rattle.gb_check.specs.declared.places.Rooted.{Rooted}
+use Rattle.gb_check.specs.declared.all_places.Rooted.{Rooted}
 use Rattle.gb_check.specs.declared.sites.Site.{Site}
 
 -- the declaration of a task; nothing if it has a fault

@@ -8,8 +8,8 @@ ghost use Rattle.gb_folder.specs.Faults.{IsOfMachine};
 ghost use Rattle.gb_check.specs.Findings.{warning};
 ghost use Rattle.gb_check.specs.Warnings.{bare_root, bare_roots, is_bare};
 
+use crate::all_places::{Rooted, all_outputs, all_roots};
 use crate::findings::{Finding, Problem, push_warning};
-use crate::places::{Rooted, all_outputs, all_roots};
 use crate::sites::Site;
 use gb_core::place::Place;
 use gb_folder::calls::list;

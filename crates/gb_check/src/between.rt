@@ -10,7 +10,7 @@ use crate::findings::{Finding, Problem, push_warning};
 use crate::sites::Site;
 use gb_core::path::TaskPath;
 use gb_core::place::Place;
-use gb_core::tasks::TaskPaths;
+use gb_core::task_paths::TaskPaths;
 use gb_plan::task::{FileProperty, TaskDeclaration};
 use std::alloc::AllocError;
 

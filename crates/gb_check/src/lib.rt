@@ -31,6 +31,7 @@
 //! known.
 #![tactic(auto)]
 
+mod all_places;
 mod bare;
 mod between;
 mod checking;
@@ -44,7 +45,6 @@ pub mod finding_text;
 pub mod findings;
 mod guarded;
 pub mod laws;
-mod places;
 pub mod sites;
 pub mod statement;
 mod warning;

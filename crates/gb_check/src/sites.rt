@@ -10,7 +10,7 @@ ghost use Rattle.gb_registry.specs.SoFar.{scripts_in};
 ghost use Rattle.gb_registry.specs.Tables.{tables_of};
 ghost use Rattle.gb_report.specs.declared.fault.Fault.TheVariants.{OutOfMemory};
 ghost use Rattle.gb_script.specs.Lines.{AreLinesOf};
-ghost use Rattle.gb_script.specs.Script.{Says};
+ghost use Rattle.gb_script.specs.Script.{HasMeaning};
 ghost use Rattle.gb_script.specs.declared.fault.ScriptFault.{ScriptFault};
 ghost use Rattle.gb_folder.specs.Faults.{IsOfMachine};
 ghost use Rattle.gb_check.specs.Marks.{Lines, first_lines, marks_of, other_lines, script_scope};
@@ -103,6 +103,41 @@ fn push_script<A: Actions, T: Transforms, F: Folder>(
 {
     let script = script_of_project(alloc, &scripted.project)?;
     let lines = lines_at(alloc, folder, &script)?;
+    let pushed = push_lines(
+        alloc,
+        tables,
+        names,
+        sites,
+        marks,
+        scripted,
+        &script,
+        lines.as_slice(),
+    );
+    drop(lines);
+    drop(script);
+    pushed
+}
+
+/// Adds the tasks that a script registers, and the marks of their clauses, by the lines of its
+/// statements.
+fn push_lines<A: Actions, T: Transforms>(
+    alloc: Global,
+    tables: &Tables<A, T>,
+    names: &Names<'_>,
+    sites: &mut Vec<Site>,
+    marks: &mut Vec<ClauseMark>,
+    scripted: &Scripted,
+    script: &Place,
+    lines: &[StatementLines],
+) -> Result<(), Fault>
+    ensures sites { OnOk result (sites.new.items
+        ≡ sites.old.items ++ sites_of scripted.now.project script.now scripted.now.script lines.now) }
+    ensures marks { OnOk result (marks.new.items
+        ≡ marks.old.items ++ marks_of (tables_of T.meanings A.meanings tables.now)
+        (script_scope names.now scripted.now.project scripted.now.script)
+        scripted.now.project scripted.now.script lines.now) }
+    ensures err { IfErr result (λ fault. fault ≡ OutOfMemory) }
+{
     let statements = scripted.script.statements();
     let properties = properties_of(alloc, statements)?;
     let scope: Scope<'_, A, T> = Scope {
@@ -111,15 +146,7 @@ fn push_script<A: Actions, T: Transforms, F: Folder>(
         properties: &properties,
         names: Some(names),
     };
-    push_statements(
-        alloc,
-        sites,
-        marks,
-        &scope,
-        &script,
-        statements,
-        lines.as_slice(),
-    )
+    push_statements(alloc, sites, marks, &scope, script, statements, lines)
 }
 
 /// The place of the script of a project.
@@ -181,7 +208,7 @@ fn too_long(place: &Place) -> Fault
 fn lines_in(alloc: Global, bytes: &[u8], place: &Place) -> Result<Vec<StatementLines>, Fault>
     ensures lines { IfOk result (λ lines. AreLinesOf bytes.now lines.items) }
     ensures err { IfErr result (λ fault. (fault ≡ OutOfMemory)
-        ⊎ ((of : ScriptFault) × Says bytes.now (Err of) × (fault ≡ in_file place.now of))) }
+        ⊎ ((of : ScriptFault) × HasMeaning bytes.now (Err of) × (fault ≡ in_file place.now of))) }
 {
     match read_script_lines(alloc, bytes) {
         Ok(lines) => Ok(lines),

@@ -2,13 +2,14 @@
 ghost use Rattle.gb_core.specs.Laws.{BeneathIsBySegments, OverlapIsBySegments, JoinIsBySegments};
 ghost use Rattle.gb_core.specs.Laws.{TaskPathsHaveParts, PartsMakeTaskPaths};
 
-/// By its bytes, a place lies under a folder exactly when its segments are the folder's and at
-/// least one more.
+/// A place lies under a folder, compared by bytes, exactly when its segments are the folder's and
+/// at least one more.
 pub fn beneath_is_by_segments()
     ensures { BeneathIsBySegments }
 {}
 
-/// By bytes, two places overlap exactly when they are equal or one is under the other by segments.
+/// Two places overlap, compared by bytes, exactly when they are equal or one is under the other by
+/// segments.
 pub fn overlap_is_by_segments()
     ensures { OverlapIsBySegments }
 {}

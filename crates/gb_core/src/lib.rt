@@ -8,6 +8,10 @@
 //! task path is a project path and a name, in both directions. `beneath_is_by_segments` and its two
 //! neighbours say that comparing bytes is comparing segments. A `Text` of at most 22 bytes
 //! allocates nothing.
+//!
+//! Set aside: the kit's `ArrayString` for short texts, since it stores its length in eight bytes
+//! and would leave 8 of the 22; and a check in `as_str` that the bytes are UTF-8, since it would
+//! slow down each comparison: that they are is an invariant of the type.
 #![tactic(auto)]
 
 pub mod bytes;
@@ -17,6 +21,6 @@ pub mod path;
 pub mod place;
 pub mod row;
 mod short;
-pub mod tasks;
+pub mod task_paths;
 pub mod text;
 pub mod value;

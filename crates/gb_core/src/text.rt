@@ -96,7 +96,7 @@ fn short_text(text: &str) -> Text
     }
 }
 
-/// The same for both forms.
+/// Both forms are shown alike, as their text.
 impl fmt::Debug for Text {
     fn fmt<W: fmt::Write>(&self, f: &mut fmt::Formatter<W>) -> fmt::Result {
         f.debug_struct("Text")
@@ -155,7 +155,7 @@ impl PartialOrd for Text {
     }
 }
 
-/// By bytes.
+/// Texts are ordered by their bytes.
 impl Ord for Text {
     ghost use Rattle.std.proofs.Common.{rules};
     ghost use Rattle.std.specs.Cmp.Lexicographic.{slice_cmp};

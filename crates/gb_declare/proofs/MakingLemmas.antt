@@ -15,7 +15,7 @@ use Rattle.gb_registry.specs.Faults.{IsFirstFault, ReportsFirst}
 use Rattle.gb_registry.specs.Wrong.{found_in, found_at, found_in_all, found_along, found_by}
 use Rattle.gb_script.specs.Tree.{Tree, Chain, Root, trees_of, Link, Links, links_of, root, links, links_size, tree_size}
 use Rattle.gb_script.specs.View.{link_of}
-use Rattle.gb_script.specs.declared.expression.Step.{Step}
+use Rattle.gb_script.specs.declared.script_expression.Step.{Step}
 use Rattle.std.specs.Borrow.{Bor}
 use Rattle.gb_declare.specs.Borrowed.{now_of}
 use Rattle.gb_declare.specs.Site.{Site, AreThere}

@@ -2,7 +2,7 @@
 use Rattle.std.proofs.Common.{◌≡◌, ℕ, Bool, true, false, List, [], ◌∷◌, Ok, Err, refl}
 use Rattle.std.specs.Prelude.{codes, Result}
 use Rattle.gb_core.specs.declared.value.Value.TheVariants as values
-use Rattle.gb_action.specs.declared.output.Form.TheVariants.{File, Dir}
+use Rattle.gb_action.specs.declared.output_files.Form.TheVariants.{File, Dir}
 use Rattle.gb_tree.specs.declared.property.Naming.TheVariants.{Relative}
 use Rattle.gb_script.specs.Tree.{Tree, Chain, TextOf, GradlePropertyOf, FlatMapBy, links_of}
 use Rattle.gb_script.specs.declared.script.Clause.TheVariants as clauses

@@ -9,7 +9,7 @@ use Rattle.gb_core.specs.Lists.{byte_order}
 use Rattle.gb_core.proofs.Booleans.{left_false, right_false}
 use Rattle.gb_action.specs.Meanings.{shape_of}
 use Rattle.gb_action.specs.Shapes.{args_fit, fit, has_source, has_output}
-use Rattle.gb_action.specs.declared.output.Form.{Form}
+use Rattle.gb_action.specs.declared.output_files.Form.{Form}
 use Rattle.gb_action.specs.declared.shape.Fit.TheVariants as fits
 use Rattle.gb_script.specs.declared.script.Call.{Call}
 use Rattle.gb_script.specs.declared.script.InputFiles.{InputFiles}

@@ -10,7 +10,7 @@ use Rattle.std.specs.declared.cmp.Ordering.{Ordering}
 use Rattle.std.specs.declared.cmp.Ordering.TheVariants.{Less, Equal, Greater}
 use Rattle.gb_core.specs.Lists.{byte_order}
 use Rattle.gb_core.specs.declared.value.Value.{Value}
-use Rattle.gb_action.specs.declared.output.Form.{Form}
+use Rattle.gb_action.specs.declared.output_files.Form.{Form}
 use Rattle.gb_plan.specs.declared.task.Output.{Output}
 use Rattle.gb_plan.specs.declared.task.TaskDeclaration.{TaskDeclaration}
 use Rattle.gb_provider.specs.declared.expression.Expression.{Expression}

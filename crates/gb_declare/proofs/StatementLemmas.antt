@@ -5,8 +5,8 @@ use Rattle.std.specs.Prelude.{bytes_eq, filter_map, fold, option_map, slice_get,
 use Rattle.std.specs.List.{AllByRecursion, list_any}
 use Rattle.gb_provider.specs.Changes.{ChangeWithin, changed, open_property, takes, if_taken}
 use Rattle.gb_provider.specs.Rules.{OperandsWithin, PlaceWithin, SettingWithin}
-use Rattle.gb_provider.specs.declared.change.Change.{Change}
-use Rattle.gb_provider.specs.declared.change.Change.TheVariants.{Set, SetFrom, Unset, Convention, Finalize}
+use Rattle.gb_provider.specs.declared.property_change.Change.{Change}
+use Rattle.gb_provider.specs.declared.property_change.Change.TheVariants.{Set, SetFrom, Unset, Convention, Finalize}
 use Rattle.gb_provider.specs.declared.expression.Expression.{Expression}
 use Rattle.gb_provider.specs.declared.expression.Expression.TheVariants.{Constant, OfProperty, OfOutput, Listed, Mapped, FlatMapped, Zipped, OrElse}
 use Rattle.gb_provider.specs.declared.expression.Node.{Node}

@@ -2,7 +2,7 @@
 use Rattle.std.proofs.Common.{◌≡◌, ℕ, true, false, List, [], ◌∷◌, Ok, Err, refl}
 use Rattle.std.specs.Prelude.{codes, Result}
 use Rattle.gb_core.specs.declared.value.Value.TheVariants as values
-use Rattle.gb_action.specs.declared.output.Form.TheVariants.{File}
+use Rattle.gb_action.specs.declared.output_files.Form.TheVariants.{File}
 use Rattle.gb_script.specs.Tree.{Chain, PropertyOf, TheBuildDir, GradlePropertyOf, MapBy, links_of}
 use Rattle.gb_script.specs.declared.script.Statement.{Statement}
 use Rattle.gb_script.specs.declared.script.Statement.TheVariants as statements

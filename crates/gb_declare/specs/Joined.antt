@@ -3,8 +3,8 @@ use Rattle.std.specs.Prelude.{ℕ, List, [], ◌∷◌, ◌++◌, fold, filter_m
 use Rattle.std.specs.Option.{option_to_list}
 use Rattle.std.specs.List.{flat_map, last_or}
 use Rattle.std.specs.FinMap.Entries.{put}
-use Rattle.gb_action.specs.declared.output.Form.{Form}
-use Rattle.gb_action.specs.declared.output.Form.TheVariants.{File, Dir}
+use Rattle.gb_action.specs.declared.output_files.Form.{Form}
+use Rattle.gb_action.specs.declared.output_files.Form.TheVariants.{File, Dir}
 use Rattle.gb_core.specs.Tasks.{with_tasks}
 use Rattle.gb_core.specs.Lists.{byte_order}
 use Rattle.gb_script.specs.Tree.{Tree}

@@ -23,11 +23,13 @@ pub record ArePart {A : Type 0} (number : ℕ → ℕ) (Pending : A → Type 0)
 -- a result in the part is the result in the whole, unless it is pending
 abbrev pub PartsAnswer : Type 0 → Type 1
 PartsAnswer A =
-    (number : ℕ → ℕ) (Pending : A → Type 0) (part whole : List (Rule ℕ A)) → ArePart number Pending part whole →
-    (entry : ℕ) (a : A) → answer part entry ≡ Some a → Pending a ⊎ (answer whole (number entry) ≡ Some a)
+    (number : ℕ → ℕ) (Pending : A → Type 0) (part whole : List (Rule ℕ A))
+    → ArePart number Pending part whole
+    → (entry : ℕ) (a : A) → answer part entry ≡ Some a → Pending a ⊎ (answer whole (number entry) ≡ Some a)
 
 -- what never has a result in the part never has one in the whole
 abbrev pub PartsAreEndless : Type 0 → Type 1
 PartsAreEndless A =
-    (number : ℕ → ℕ) (Pending : A → Type 0) (part whole : List (Rule ℕ A)) → ArePart number Pending part whole →
-    (entry : ℕ) → entry < length part → answer part entry ≡ None → answer whole (number entry) ≡ None
+    (number : ℕ → ℕ) (Pending : A → Type 0) (part whole : List (Rule ℕ A))
+    → ArePart number Pending part whole
+    → (entry : ℕ) → entry < length part → answer part entry ≡ None → answer whole (number entry) ≡ None

@@ -11,7 +11,7 @@ use Rattle.gb_registry.specs.Said.{declared_property}
 use Rattle.gb_script.specs.declared.script.Statement.{Statement}
 use Rattle.gb_declare.specs.Joined.{Named}
 use Rattle.gb_declare.specs.Whole.{build_folder}
-use Rattle.gb_declare.specs.declared.scripts.Laid.{Laid}
+use Rattle.gb_declare.specs.declared.script_nodes.Laid.{Laid}
 use Rattle.gb_declare.specs.Site.{Site}
 use Rattle.gb_declare.specs.Statements.{named_from, properties_made, statements_faults, statements_made}
 

@@ -2,7 +2,7 @@
 use Rattle.std.specs.Prelude.{ℕ, Bool, false, not, ◌&&◌, List, Option, None, Some}
 use Rattle.gb_action.specs.Meanings.{Meanings, shape_of}
 use Rattle.gb_action.specs.Shapes.{has_source, has_output}
-use Rattle.gb_action.specs.declared.output.Form.{Form}
+use Rattle.gb_action.specs.declared.output_files.Form.{Form}
 
 -- the stored action, if there is one, finds no such file property or output
 abbrev pub is_unfit : {A : Type 0} → Meanings A → List (List ℕ) → List (List ℕ × Form) → Option A → Bool

@@ -6,8 +6,9 @@ use Rattle.gb_core.specs.Lists.{byte_order}
 use Rattle.gb_provider.specs.declared.expression.Node.{Node}
 use Rattle.gb_provider.specs.Answers.{Held}
 use Rattle.gb_provider.specs.Changes.{open_property, changed}
-use Rattle.gb_provider.specs.declared.change.Change.{Change}
-use Rattle.gb_provider.specs.declared.change.Change.TheVariants.{SetFrom, Unset, Convention, Finalize}
+use Rattle.gb_provider.specs.declared.property_change.Change.{Change}
+use Rattle.gb_provider.specs.declared.property_change.Change.TheVariants.{SetFrom, Unset}
+use Rattle.gb_provider.specs.declared.property_change.Change.TheVariants.{Convention, Finalize}
 use Rattle.gb_provider.specs.declared.expression.Expression.{Expression}
 use Rattle.gb_provider.specs.declared.expression.Expression.TheVariants.{OfProperty}
 use Rattle.gb_provider.specs.declared.expression.Property.{Property}

@@ -15,9 +15,9 @@ use gb_registry::names::{Names, check_name};
 use gb_registry::operands::look_along;
 use gb_registry::wrong::{Scope, check_count, check_task};
 use gb_report::fault::Fault;
-use gb_script::expression::Expressions;
 use gb_script::function::Function;
 use gb_script::script::{Call, Clause, Condition, InputFiles};
+use gb_script::script_expression::Expressions;
 use gb_tree::pattern::{Pattern, PatternFault};
 use std::alloc::Global;
 

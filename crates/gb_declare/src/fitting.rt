@@ -12,7 +12,7 @@ ghost use Rattle.gb_declare.specs.Views.{joined_of};
 use crate::registered::Joined;
 use gb_action::actions::Actions;
 use gb_action::list::ActionList;
-use gb_action::output::Form;
+use gb_action::output_files::Form;
 use gb_action::run::accepts;
 use gb_action::shape::Fit;
 use gb_action::table::ActionTable;
@@ -22,8 +22,8 @@ use gb_core::path::TaskPath;
 use gb_provider::transforms::Transforms;
 use gb_registry::wrong::Scope;
 use gb_report::fault::Fault;
-use gb_script::expression::Expression;
 use gb_script::script::{Call, InputFiles};
+use gb_script::script_expression::Expression;
 use std::alloc::{AllocError, Global};
 use std::collections::BTreeMap;
 

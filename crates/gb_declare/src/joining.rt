@@ -10,10 +10,10 @@ ghost use Rattle.gb_declare.specs.Joined.{output_in, up_to_date_when_in, value_i
 
 use crate::picks;
 use gb_action::list::ActionList;
-use gb_action::output::Form;
+use gb_action::output_files::Form;
 use gb_core::name::Name;
-use gb_script::expression::Expression;
 use gb_script::script::{Call, Clause, Condition, InputFiles};
+use gb_script::script_expression::Expression;
 use std::alloc::{AllocError, Global};
 use std::collections::BTreeMap;
 

@@ -11,12 +11,12 @@ ghost use Rattle.gb_declare.specs.Wrong.{link_faults, making_faults, root_faults
 
 use crate::position::Site;
 use crate::sources::add_source;
-use crate::steps::{add_flat_map, add_map, add_zip};
+use crate::step_nodes::{add_flat_map, add_map, add_zip};
 use gb_provider::expression::Node;
 use gb_provider::providers::Providers;
 use gb_provider::transforms::Transforms;
 use gb_report::fault::Fault;
-use gb_script::expression::{Expression, Source, Step};
+use gb_script::script_expression::{Expression, Source, Step};
 use std::alloc::Global;
 
 /// Adds the nodes of an expression: its source, and then step by step, an operand before its step.

@@ -11,7 +11,7 @@ ghost use Rattle.gb_declare.specs.Joined.{with_named};
 use crate::picks;
 use gb_core::name::NameFault;
 use gb_core::path::{ProjectPath, TaskPath};
-use gb_core::tasks::TaskPaths;
+use gb_core::task_paths::TaskPaths;
 use gb_core::text::{Text, Texts};
 use gb_registry::paths::absolute;
 use gb_report::fault::Fault;

@@ -5,10 +5,10 @@ ghost use Rattle.gb_declare.specs.Joined.{depends_on_in, enabled_in, files_in, f
 ghost use Rattle.gb_declare.specs.Joined.{last_in, must_run_after_in, only_if_in, output_in};
 ghost use Rattle.gb_declare.specs.Joined.{up_to_date_when_in, value_in};
 
-use gb_action::output::Form;
+use gb_action::output_files::Form;
 use gb_core::text::Texts;
-use gb_script::expression::Expression;
 use gb_script::script::{Assignment, Call, Clause, Condition, InputFiles};
+use gb_script::script_expression::Expression;
 
 /// An input that is a value.
 pub fn value_in(clause: &Clause) -> Option<&Assignment>

@@ -1,11 +1,11 @@
 //! A registered task, and its combined clauses.
 use gb_action::list::ActionList;
-use gb_action::output::Form;
+use gb_action::output_files::Form;
 use gb_core::name::Name;
 use gb_core::path::{ProjectPath, TaskPath};
-use gb_core::tasks::TaskPaths;
-use gb_script::expression::Expression;
+use gb_core::task_paths::TaskPaths;
 use gb_script::script::{Call, Clause, Condition, InputFiles};
+use gb_script::script_expression::Expression;
 use std::collections::BTreeMap;
 
 /// A registered task, as its script has it.

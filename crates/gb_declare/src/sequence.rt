@@ -8,10 +8,10 @@ ghost use Rattle.gb_declare.specs.Whole.{trees_of};
 
 use crate::registered::Joined;
 use gb_action::list::ActionList;
-use gb_action::output::Form;
+use gb_action::output_files::Form;
 use gb_core::name::Name;
-use gb_script::expression::{Expression, Expressions};
 use gb_script::script::{Call, Condition, InputFiles};
+use gb_script::script_expression::{Expression, Expressions};
 use std::alloc::{AllocError, Global};
 use std::collections::BTreeMap;
 

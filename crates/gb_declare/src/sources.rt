@@ -23,7 +23,7 @@ use gb_provider::transforms::Transforms;
 use gb_registry::paths::absolute;
 use gb_registry::project::Project;
 use gb_report::fault::Fault;
-use gb_script::expression::Source;
+use gb_script::script_expression::Source;
 use std::alloc::{AllocError, Global};
 
 /// The place of a text in a project. Refused where the text is no place (2).

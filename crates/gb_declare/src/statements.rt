@@ -1,6 +1,7 @@
 //! The effect of the statements of a script on the properties of its project.
 ghost use Rattle.std.specs.Prelude.{◌≡◌, ◌<◌, OnOk, length};
-ghost use Rattle.gb_provider.specs.declared.change.Change.TheVariants.{Convention, Finalize, SetFrom, Unset};
+ghost use Rattle.gb_provider.specs.declared.property_change.Change.TheVariants.{Convention, Finalize};
+ghost use Rattle.gb_provider.specs.declared.property_change.Change.TheVariants.{SetFrom, Unset};
 ghost use Rattle.gb_registry.specs.Faults.{ReportsFirst};
 ghost use Rattle.gb_declare.specs.Site.{AreThere, site_of};
 ghost use Rattle.gb_declare.specs.Statements.{IsRun, place_of, property_faults, statement_faults};

@@ -6,8 +6,8 @@ ghost use Rattle.gb_core.specs.Lists.{byte_order};
 ghost use Rattle.gb_disk.specs.Disk.{AllUnder, IsOfListing, IsOfMachine, path_in};
 
 use crate::device::Device;
+use crate::entries::in_order;
 use crate::entry::{Entry, FileInfo};
-use crate::names::in_order;
 use crate::span::Span;
 use crate::trail::Trail;
 use crate::walk::Found;

@@ -4,7 +4,7 @@ ghost use Rattle.gb_disk.specs.Disk.{IsOfMachine, aside, path_in};
 
 use crate::device::Device;
 use crate::entry::{Entry, entry_at, fault_of};
-use crate::path::{go_down, lead_to};
+use crate::system_path::{go_down, lead_to};
 use crate::trail::Trail;
 use gb_core::place::Place;
 use gb_folder::folder::FolderFault;

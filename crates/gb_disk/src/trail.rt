@@ -3,8 +3,8 @@
 ghost use Rattle.std.specs.Prelude.{◌≡◌, IfOk};
 ghost use Rattle.gb_disk.specs.Disk.{AllUnder};
 
+use crate::entries::only;
 use crate::entry::FileInfo;
-use crate::names::only;
 use gb_core::place::Place;
 use std::alloc::{AllocError, Global};
 

@@ -4,8 +4,8 @@ ghost use Rattle.gb_core.specs.Place.{is_under};
 ghost use Rattle.gb_disk.specs.Disk.{AllUnder, IsOfListing, IsOfMachine};
 
 use crate::device::Device;
+use crate::entries::{only, places_in};
 use crate::entry::{Entry, FileInfo, fault_of};
-use crate::names::{only, places_in};
 use crate::trail::Trail;
 use gb_core::place::Place;
 use gb_folder::folder::FolderFault;

@@ -4,6 +4,12 @@
 //! their macros alone.
 //!
 //! Proved: that the program never panics, and that it ends if its system calls end.
+//!
+//! It makes a list of three events: a script is written, and its task is built twice.
+//! `run_from_nothing` executes them in a new folder, and each answer is printed. The second build
+//! finds the task up to date.
+//!
+//! Out of scope: kinds of its own (`gb_upper`), and a folder on a disk (`gb_here`).
 #![tactic(auto)]
 
 use gb_answer::answer::{not_built_text, refusal_text};

@@ -6,7 +6,7 @@ use Rattle.gb_folder.specs.Calls.{Requests, changes_at, no_change, Device}
 use Rattle.gb_folder.specs.Files.{Place}
 use Rattle.gb_folder.proofs.Asked.{requests_more, requests_nothing, requests_then, change_at}
 use Rattle.gb_history.specs.Record.{Record}
-use Rattle.gb_meaning.specs.Execution.{dry_reports}
+use Rattle.gb_semantics.specs.Execution.{dry_reports}
 use Rattle.gb_plan.specs.Ready.{Rows}
 use Rattle.gb_plan.specs.Task.{Text}
 use Rattle.gb_plan.specs.declared.plan.Planned.{Planned}
@@ -17,7 +17,7 @@ use Rattle.gb_report.specs.declared.report.Outcome.TheVariants as outcomes
 use Rattle.gb_report.specs.declared.report.TaskReport.{TaskReport}
 use Rattle.gb_task.specs.Executing.{is_of_execution}
 use Rattle.gb_task.proofs.ByOutcome.{execution_places}
-use Rattle.gb_tree.specs.Seen.{AreSeen, SeenFile}
+use Rattle.gb_tree.specs.DigestCache.{AreCached, CachedFile}
 use Rattle.gb_tree.proofs.Remembering.{none_seen}
 use Rattle.gb_exec.specs.Asking.{ExecutionsRequest}
 use Rattle.gb_exec.specs.Building.{is_of_executions}
@@ -81,19 +81,19 @@ module _ {F S : Type 0} (device : Device F) (meanings : Meanings S) (rows : Rows
 
   -- The executions so far, from a state of the folder to another; what is remembered was read since the last change
   -- in them.
-  pub record AreSoFar (plan : List Planned) (records : List (Option Record)) (reports : List TaskReport) (old new : F) (seen : List SeenFile) : Type 0 where
+  pub record AreSoFar (plan : List Planned) (records : List (Option Record)) (reports : List TaskReport) (old new : F) (seen : List CachedFile) : Type 0 where
     pub last : F
     pub executions : ExecutionsUntil plan records reports old old last new
     pub none : Requests device no_change last new
-    pub were : AreSeen device last new seen
+    pub were : AreCached device last new seen
 
-  pub none_so_far : (old : F) (seen : List SeenFile) → seen ≡ [] → AreSoFar [] [] [] old old seen
+  pub none_so_far : (old : F) (seen : List CachedFile) → seen ≡ [] → AreSoFar [] [] [] old old seen
   none_so_far old seen none = record { last = old; executions = (refl, refl); none = requests_nothing old; were = none_seen device old old seen none }
 
-  pub more_so_far : (plan : List Planned) (records : List (Option Record)) (reports : List TaskReport) (old mid : F) (seen : List SeenFile) (far : AreSoFar plan records reports old mid seen)
-      (planned : Planned) (read : Option Record) (report : TaskReport) (new : F) (now : List SeenFile)
+  pub more_so_far : (plan : List Planned) (records : List (Option Record)) (reports : List TaskReport) (old mid : F) (seen : List CachedFile) (far : AreSoFar plan records reports old mid seen)
+      (planned : Planned) (read : Option Record) (report : TaskReport) (new : F) (now : List CachedFile)
       → ExecutionRequests device meanings rows options planned.task read report.outcome report.lines far.last mid new
-      → AreSeen device (since_after report.outcome far.last new) new now
+      → AreCached device (since_after report.outcome far.last new) new now
       → AreSoFar (plan ++ planned ∷ []) (records ++ read ∷ []) (reports ++ report ∷ []) old new now
   more_so_far plan records reports old mid seen far planned read report new now execution were = record {
     last = since_after report.outcome far.last new;

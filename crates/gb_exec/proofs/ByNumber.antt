@@ -8,7 +8,7 @@ use Rattle.gb_plan.specs.declared.plan.Planned.{Planned}
 use Rattle.gb_plan.specs.Task.{Path, has_path}
 use Rattle.gb_plan.specs.Graph.{order}
 use Rattle.gb_plan.proofs.Tests.{not_true, or_right, any_append, itself}
-use Rattle.gb_meaning.proofs.Common.{some_same, none_some}
+use Rattle.gb_semantics.proofs.Common.{some_same, none_some}
 use Rattle.gb_exec.specs.Plans.{path_at}
 
 pub same_truth : (a b : Bool) → (a ≡ true → b ≡ true) → (b ≡ true → a ≡ true) → a ≡ b

@@ -5,9 +5,9 @@ use Rattle.std.specs.List.{list_any}
 use Rattle.std.specs.Cmp.Lexicographic.{bytes_decides}
 use Rattle.std.proofs.Common.{refl, sym, ap, ◌∙◌, inl, inr}
 use Rattle.gb_folder.specs.Files.{Bytes, is_empty}
-use Rattle.gb_meaning.specs.Events.{Setting, State}
-use Rattle.gb_meaning.specs.TrueRecord.{AreCollisionFree}
-use Rattle.gb_meaning.proofs.Lemmas.Clear.{Among, separate_of_fewer}
+use Rattle.gb_semantics.specs.Events.{Setting, State}
+use Rattle.gb_semantics.specs.TrueRecord.{AreCollisionFree}
+use Rattle.gb_semantics.proofs.Lemmas.Clear.{Among, separate_of_fewer}
 use Rattle.gb_plan.proofs.Tests.{left_of, no_longer, not_false, not_true, right_of}
 use Rattle.gb_exec.proofs.ByNumber.{at_some, both_true, contained, contains_any}
 use Rattle.gb_exec.specs.Built.{guard}

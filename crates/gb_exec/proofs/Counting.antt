@@ -3,7 +3,7 @@ use Rattle.std.specs.Prelude.{ℕ, ◌≡◌, ◌≤◌, ◌+◌, Bool, true, fa
 use Rattle.std.specs.List.{fold}
 use Rattle.std.proofs.Common.{refl, sym, ap, subst, inl, inr, arith}
 use Rattle.gb_folder.specs.Files.{HasRisen, Place}
-use Rattle.gb_meaning.specs.Headline.{HasFailed, failed_by_device, is_of_device}
+use Rattle.gb_semantics.specs.Headline.{HasFailed, failed_by_device, is_of_device}
 use Rattle.gb_plan.proofs.Tests.{not_true}
 use Rattle.gb_report.specs.declared.fault.Fault.{Fault}
 use Rattle.gb_report.specs.declared.fault.Fault.TheVariants as faults

@@ -3,7 +3,7 @@ use Rattle.std.proofs.Common.{◌≡◌, ◌+◌, ◌-◌, ◌^◌, ℕ, Bool, t
 use Rattle.std.specs.List.{count_by, fold, items_where_true}
 use Rattle.std.proofs.Math.Nat.{sub-add-min_cancel}
 use Rattle.gb_report.specs.declared.report.Heard.{Heard}
-use Rattle.gb_meaning.specs.Headline.{counted}
+use Rattle.gb_semantics.specs.Headline.{counted}
 
 pub counted_none : (count : ℕ) → counted count 0 ≡ count
 counted_none count = let none = sub-add-min_cancel 0 (2 ^ 64 - 1 - count) in omega (arith, none)

@@ -2,11 +2,11 @@
 use Rattle.std.specs.Prelude.{◌≡◌, true, false, not, cond, Option, Some, None, bytes_eq}
 use Rattle.std.proofs.Common.{refl, ap, ◌∙◌, inl, inr}
 use Rattle.gb_folder.specs.Files.{is_empty}
-use Rattle.gb_meaning.specs.Kinds.{Kinds}
-use Rattle.gb_meaning.specs.Label.{CannotRead, Early, HasNoActions, HasNoSource, Moment, Skips, early_case}
-use Rattle.gb_meaning.specs.Made.{with_outputs}
-use Rattle.gb_meaning.specs.Memory.{Entry, Memory, World, entry_of, forget, recalled, remember}
-use Rattle.gb_meaning.specs.Execution.{ByItself, ByMachine, Cause, FailedRunLeaves, FailureLeaves, HasEnded, IsGivenUp, Leaves, Rules, WorldState, Execution, cause_of}
+use Rattle.gb_semantics.specs.Kinds.{Kinds}
+use Rattle.gb_semantics.specs.Label.{CannotRead, Early, HasNoActions, HasNoSource, Moment, Skips, early_case}
+use Rattle.gb_semantics.specs.Made.{with_outputs}
+use Rattle.gb_semantics.specs.Memory.{Entry, Memory, World, entry_of, forget, recalled, remember}
+use Rattle.gb_semantics.specs.Execution.{ByItself, ByMachine, Cause, FailedRunLeaves, FailureLeaves, HasEnded, IsGivenUp, Leaves, Rules, WorldState, Execution, cause_of}
 use Rattle.gb_plan.specs.Task.{Path}
 use Rattle.gb_plan.specs.declared.plan.Planned.{Planned}
 use Rattle.gb_plan.specs.declared.task.TaskDeclaration.{TaskDeclaration as Task}

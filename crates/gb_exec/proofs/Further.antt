@@ -3,7 +3,7 @@ use Rattle.std.proofs.Common.{◌≡◌, ◌≤◌, ◌+◌, ℕ, Bool, true, fa
 use Rattle.std.specs.List.{AllZip, count_by, items_where_true}
 use Rattle.std.proofs.lemmas.List.{length-append, append_assoc}
 use Rattle.gb_report.specs.declared.report.Heard.{Heard}
-use Rattle.gb_meaning.specs.Headline.{Ear, HearsAll, HearsSome, counted}
+use Rattle.gb_semantics.specs.Headline.{Ear, HearsAll, HearsSome, counted}
 use Rattle.gb_exec.specs.Notifying.{ReportedIsHeard, ReportedMore}
 use Rattle.gb_exec.proofs.Counts.{counted_both, counted_none, kept_or_refused, refused_both}
 use Rattle.gb_exec.proofs.ByNumber.{both_true}

@@ -5,8 +5,8 @@ use Rattle.std.proofs.Common.{refl, ap, sym, ◌∙◌}
 use Rattle.std.proofs.lemmas.Grind.{flat_map-append}
 use Rattle.gb_exec.specs.Notifying.{AllReported}
 use Rattle.gb_exec.proofs.Counts.{counted_none}
-use Rattle.gb_meaning.specs.Headline.{Ear, HearsAll, HearsSome}
-use Rattle.gb_meaning.specs.Execution.{heard_of}
+use Rattle.gb_semantics.specs.Headline.{Ear, HearsAll, HearsSome}
+use Rattle.gb_semantics.specs.Execution.{heard_of}
 use Rattle.gb_report.specs.Outcome.{is_started}
 use Rattle.gb_report.specs.declared.report.Heard.{Heard}
 use Rattle.gb_report.specs.declared.report.Heard.TheVariants as heard

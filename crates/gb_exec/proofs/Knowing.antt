@@ -9,11 +9,11 @@ use Rattle.gb_task.specs.Known.{WhatIsReadIsKnown}
 use Rattle.gb_core.specs.Path.{is_task_path}
 use Rattle.gb_folder.specs.Files.{Bytes, Contents, Files, IsFolder, are_placed, is_empty, is_own}
 use Rattle.gb_history.specs.Record.{Record}
-use Rattle.gb_meaning.specs.Kinds.{Kinds}
-use Rattle.gb_meaning.specs.Memory.{Memory, World, folder_contents, recalled}
-use Rattle.gb_meaning.specs.TrueRecord.{AreCollisionFree, contents_of}
-use Rattle.gb_meaning.proofs.Common.{none_some, some_same}
-use Rattle.gb_meaning.proofs.Lemmas.Clear.{Among, separate_of_fewer, in_left, in_one, in_right}
+use Rattle.gb_semantics.specs.Kinds.{Kinds}
+use Rattle.gb_semantics.specs.Memory.{Memory, World, folder_contents, recalled}
+use Rattle.gb_semantics.specs.TrueRecord.{AreCollisionFree, contents_of}
+use Rattle.gb_semantics.proofs.Common.{none_some, some_same}
+use Rattle.gb_semantics.proofs.Lemmas.Clear.{Among, separate_of_fewer, in_left, in_one, in_right}
 use Rattle.gb_plan.specs.Graph.{order}
 use Rattle.gb_plan.specs.declared.plan.Planned.{Planned}
 use Rattle.gb_records.specs.Said.{IsReadAt}

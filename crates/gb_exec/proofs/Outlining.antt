@@ -2,9 +2,9 @@
 use Rattle.std.specs.Prelude.{◌≡◌, Bool, true, false, List, [], ◌∷◌, ◌++◌, map}
 use Rattle.std.proofs.Common.{refl, sym, ap, subst, ◌∙◌, inl, inr, append_assoc, append-nil}
 use Rattle.gb_folder.specs.Files.{is_empty}
-use Rattle.gb_meaning.specs.Label.{Moment, some_outcome}
-use Rattle.gb_meaning.specs.Outline.{AnswersAlone, AreOutlines, IsOutline, idle_outcome, moment_by}
-use Rattle.gb_meaning.specs.Execution.{DoesStart}
+use Rattle.gb_semantics.specs.Label.{Moment, some_outcome}
+use Rattle.gb_semantics.specs.Outline.{AnswersAlone, AreOutlines, IsOutline, idle_outcome, moment_by}
+use Rattle.gb_semantics.specs.Execution.{DoesStart}
 use Rattle.gb_plan.specs.Graph.{Plan, needs_in}
 use Rattle.gb_plan.specs.Task.{Path}
 use Rattle.gb_plan.specs.declared.plan.Planned.{Planned}

@@ -6,7 +6,7 @@ use Rattle.std.proofs.lemmas.List.{length-append, take_more, take_more_set, drop
 use Rattle.std.proofs.Math.ListN.{set}
 use Rattle.std.proofs.lemmas.List.Elements.{AllZip-push}
 use Rattle.gb_report.specs.declared.report.Heard.{Heard}
-use Rattle.gb_meaning.specs.Headline.{Ear, HearsAll, HearsSome, counted}
+use Rattle.gb_semantics.specs.Headline.{Ear, HearsAll, HearsSome, counted}
 use Rattle.gb_exec.specs.Notifying.{AllReported, Refuses}
 use Rattle.gb_exec.proofs.Counts.{counted_none}
 use Rattle.gb_exec.proofs.ByNumber.{both_true}

@@ -7,7 +7,7 @@ use Rattle.gb_folder.specs.Files.{is_empty}
 use Rattle.gb_plan.specs.declared.plan.Planned.{Planned}
 use Rattle.gb_plan.specs.Task.{Path, has_path}
 use Rattle.gb_plan.specs.Graph.{after, finalized_by, orders_in, is_ready, is_scheduled_in, needs_in, no_repeats, order, stuck}
-use Rattle.gb_meaning.proofs.Common.{none_some, some_same}
+use Rattle.gb_semantics.proofs.Common.{none_some, some_same}
 use Rattle.gb_plan.proofs.Tests.{not_false, any_append, at_member, into_filter}
 use Rattle.gb_graph.specs.Ranked.{Numbers, GiveNumbers, number_at, numbers_in}
 use Rattle.gb_graph.proofs.Edges.{of_kept, into_kept, one_number}

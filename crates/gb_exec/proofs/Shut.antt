@@ -8,11 +8,11 @@ use Rattle.gb_core.specs.Path.{is_task_path}
 use Rattle.gb_core.specs.Place.{is_beneath, is_place}
 use Rattle.gb_folder.specs.Files.{Bytes, Contents, Files, HasRisen, Place, SameTearing, Tearing, is_blocked, is_own}
 use Rattle.gb_history.specs.Places.{record_place}
-use Rattle.gb_meaning.specs.Events.{IsTornInRun, ExistsInRun, is_record_shut_out, is_record_too_long, may_occur, own_files, rules_in}
-use Rattle.gb_meaning.specs.Kinds.{Kinds}
-use Rattle.gb_meaning.specs.Label.{Moment}
-use Rattle.gb_meaning.specs.Execution.{WorldState, Execution}
-use Rattle.gb_meaning.proofs.Lemmas.Weaker.{execution_weaker}
+use Rattle.gb_semantics.specs.Events.{IsTornInRun, ExistsInRun, is_record_shut_out, is_record_too_long, may_occur, own_files, rules_in}
+use Rattle.gb_semantics.specs.Kinds.{Kinds}
+use Rattle.gb_semantics.specs.Label.{Moment}
+use Rattle.gb_semantics.specs.Execution.{WorldState, Execution}
+use Rattle.gb_semantics.proofs.Lemmas.Weaker.{execution_weaker}
 use Rattle.gb_plan.specs.Graph.{Plan}
 use Rattle.gb_plan.specs.Task.{Path, is_output_of}
 use Rattle.gb_plan.specs.declared.plan.Planned.{Planned}

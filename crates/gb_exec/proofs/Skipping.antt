@@ -3,16 +3,16 @@ use Rattle.std.specs.Prelude.{ℕ, ◌≡◌, ◌+◌, Bool, true, List, [], ◌
 use Rattle.std.specs.List.{AllZip, fold}
 use Rattle.std.proofs.Common.{refl, sym, subst, ◌∙◌, inl, arith, add-zero}
 use Rattle.gb_folder.specs.Files.{Bytes, Tearing}
-use Rattle.gb_meaning.specs.Events.{State}
-use Rattle.gb_meaning.specs.Kinds.{Kinds}
-use Rattle.gb_meaning.specs.Execution.{dry_reports}
+use Rattle.gb_semantics.specs.Events.{State}
+use Rattle.gb_semantics.specs.Kinds.{Kinds}
+use Rattle.gb_semantics.specs.Execution.{dry_reports}
 use Rattle.gb_plan.specs.Graph.{Plan}
 use Rattle.gb_plan.specs.declared.plan.Planned.{Planned}
 use Rattle.gb_records.specs.Holding.{HoldsRecords}
 use Rattle.gb_report.specs.declared.report.Options.{Options}
 use Rattle.gb_task.specs.Executing.{Registering, setting_with}
 use Rattle.gb_exec.specs.Built.{HasBuilt}
-use Rattle.gb_meaning.specs.Headline.{HasFailed}
+use Rattle.gb_semantics.specs.Headline.{HasFailed}
 use Rattle.gb_exec.specs.Failing.{times_attributed}
 use Rattle.gb_exec.specs.Reports.{IsOf}
 use Rattle.gb_exec.proofs.Counting.{with_blame}

@@ -12,8 +12,8 @@ use Rattle.gb_plan.specs.declared.plan.Planned.{Planned}
 use Rattle.gb_plan.specs.Task.{Path, has_path}
 use Rattle.gb_plan.specs.Graph.{no_repeats, order, needs_in, is_scheduled_in, Reached, start, step}
 use Rattle.gb_plan.proofs.Tests.{not_true, left_of, right_of, in_filter, into_filter, any_map}
-use Rattle.gb_meaning.specs.Label.{Moment, some_outcome}
-use Rattle.gb_meaning.specs.Execution as meant
+use Rattle.gb_semantics.specs.Label.{Moment, some_outcome}
+use Rattle.gb_semantics.specs.Execution as meant
 use Rattle.gb_exec.specs.declared.may_start.Ending.{Ending}
 use Rattle.gb_exec.specs.declared.may_start.Ending.TheVariants.{ToCome}
 use Rattle.gb_exec.specs.Starts.{Progress, FinalizesStarted, Serves, called, needed, ending_in, ending_of, ended_badly, has_started, has_failed, has_executed, has_executed_need, lacks_need, mark_at, row}

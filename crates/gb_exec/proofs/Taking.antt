@@ -6,12 +6,12 @@ use Rattle.gb_task.specs.Case.{IsKnown}
 use Rattle.gb_core.specs.Place.{overlaps}
 use Rattle.gb_folder.specs.Files.{Contents, Place, Tearing}
 use Rattle.gb_history.specs.Record.{Record}
-use Rattle.gb_meaning.specs.Kinds.{Kinds}
-use Rattle.gb_meaning.specs.Label.{Moment}
-use Rattle.gb_meaning.specs.Memory.{World, recalled}
-use Rattle.gb_meaning.specs.TrueRecord.{outside}
-use Rattle.gb_meaning.specs.Execution.{DoesStart}
-use Rattle.gb_meaning.proofs.Common.{none_some, some_same}
+use Rattle.gb_semantics.specs.Kinds.{Kinds}
+use Rattle.gb_semantics.specs.Label.{Moment}
+use Rattle.gb_semantics.specs.Memory.{World, recalled}
+use Rattle.gb_semantics.specs.TrueRecord.{outside}
+use Rattle.gb_semantics.specs.Execution.{DoesStart}
+use Rattle.gb_semantics.proofs.Common.{none_some, some_same}
 use Rattle.gb_plan.specs.Graph.{Plan, some_overlap}
 use Rattle.gb_plan.specs.Task.{output_places}
 use Rattle.gb_plan.specs.declared.plan.Planned.{Planned}

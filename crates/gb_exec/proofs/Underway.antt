@@ -6,16 +6,16 @@ use Rattle.std.proofs.lemmas.List.{map-append}
 use Rattle.gb_core.specs.Path.{is_task_path}
 use Rattle.gb_core.specs.Place.{is_under}
 use Rattle.gb_folder.specs.Files.{Bytes, Contents, DiffersOnlyAt, Files, IsFolder, Place, SameTearing, Tearing, files_where, is_own}
-use Rattle.gb_meaning.specs.Edits.{Shown}
-use Rattle.gb_meaning.specs.Events.{Setting, State, own_files, rules_in, world_in}
-use Rattle.gb_meaning.specs.Headline.{contents_outside, state_of}
-use Rattle.gb_meaning.specs.Kinds.{Kinds}
-use Rattle.gb_meaning.specs.Label.{Moment}
-use Rattle.gb_meaning.specs.Memory.{Memory, World, folder_contents, recalled}
-use Rattle.gb_meaning.specs.TrueRecord.{outside}
-use Rattle.gb_meaning.specs.Execution.{Guard, Rules, WorldState as Exists, Execution, Executions, first_moment, moment_after}
-use Rattle.gb_meaning.proofs.Lemmas.Clear.{Among, in_left, in_one, in_right, existed}
-use Rattle.gb_meaning.proofs.Lemmas.Success.{folder_where}
+use Rattle.gb_semantics.specs.Edits.{Shown}
+use Rattle.gb_semantics.specs.Events.{Setting, State, own_files, rules_in, world_in}
+use Rattle.gb_semantics.specs.Headline.{contents_outside, state_of}
+use Rattle.gb_semantics.specs.Kinds.{Kinds}
+use Rattle.gb_semantics.specs.Label.{Moment}
+use Rattle.gb_semantics.specs.Memory.{Memory, World, folder_contents, recalled}
+use Rattle.gb_semantics.specs.TrueRecord.{outside}
+use Rattle.gb_semantics.specs.Execution.{Guard, Rules, WorldState as Exists, Execution, Executions, first_moment, moment_after}
+use Rattle.gb_semantics.proofs.Lemmas.Clear.{Among, in_left, in_one, in_right, existed}
+use Rattle.gb_semantics.proofs.Lemmas.Success.{folder_where}
 use Rattle.gb_plan.specs.Graph.{Plan, order, some_overlap}
 use Rattle.gb_plan.specs.Task.{Path, is_output_of, output_places}
 use Rattle.gb_plan.specs.declared.plan.Planned.{Planned}

@@ -6,7 +6,7 @@ use Rattle.std.proofs.lemmas.List.{drop_more, length-drop, length-map, take_more
 use Rattle.std.proofs.lemmas.Option.{get_or_from_slice_get, slice_get_within}
 use Rattle.gb_folder.specs.Files.{Files, Place, are_placed, files_where}
 use Rattle.gb_core.specs.Place.{is_place}
-use Rattle.gb_meaning.proofs.Common.{none_some, some_same}
+use Rattle.gb_semantics.proofs.Common.{none_some, some_same}
 use Rattle.gb_plan.specs.Graph.{no_repeats, order}
 use Rattle.gb_plan.specs.Task.{Path, has_path}
 use Rattle.gb_plan.specs.declared.plan.Planned.{Planned}

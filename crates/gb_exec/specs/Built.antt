@@ -3,14 +3,14 @@ use Rattle.std.specs.Prelude.{ℕ, Bool, List, Option, IsTrue, Contains}
 use Rattle.std.specs.List.{AllByRecursion, AllZip, flat_map}
 use Rattle.gb_folder.specs.Files.{Bytes, Contents}
 use Rattle.gb_history.specs.Record.{Record}
-use Rattle.gb_meaning.specs.Edits.{Shown}
-use Rattle.gb_meaning.specs.Events.{Setting, State, own_files, rules_in, world_in}
-use Rattle.gb_meaning.specs.Headline.{StillClear, observed_with, state_of}
-use Rattle.gb_meaning.specs.Kinds.{Kinds}
-use Rattle.gb_meaning.specs.Label.{Moment}
-use Rattle.gb_meaning.specs.Memory.{Memory}
-use Rattle.gb_meaning.specs.TrueRecord.{IsMade, contents_of, outside}
-use Rattle.gb_meaning.specs.Execution.{Builds, Guard, Execution}
+use Rattle.gb_semantics.specs.Edits.{Shown}
+use Rattle.gb_semantics.specs.Events.{Setting, State, own_files, rules_in, world_in}
+use Rattle.gb_semantics.specs.Headline.{StillClear, observed_with, state_of}
+use Rattle.gb_semantics.specs.Kinds.{Kinds}
+use Rattle.gb_semantics.specs.Label.{Moment}
+use Rattle.gb_semantics.specs.Memory.{Memory}
+use Rattle.gb_semantics.specs.TrueRecord.{IsMade, contents_of, outside}
+use Rattle.gb_semantics.specs.Execution.{Builds, Guard, Execution}
 use Rattle.gb_plan.specs.Graph.{Plan, order}
 use Rattle.gb_plan.specs.declared.plan.Planned.{Planned}
 use Rattle.gb_records.specs.Said.{IsReadAt}

@@ -1,6 +1,6 @@
 -- How often a build attributes a fault to the device.
 use Rattle.std.specs.Prelude.{ℕ, List, count_by}
-use Rattle.gb_meaning.specs.Headline.{failed_by_device}
+use Rattle.gb_semantics.specs.Headline.{failed_by_device}
 use Rattle.gb_report.specs.declared.report.TaskReport.{TaskReport}
 
 -- how many tasks failed by the device

@@ -2,8 +2,8 @@
 use Rattle.std.specs.Prelude.{ℕ, ◌≡◌, ◌↔◌, Bool, true, not, ◌&&◌, List, ◌++◌, Option, None, Some}
 use Rattle.std.specs.List.{AllZip}
 use Rattle.std.specs.Borrow.{Bor}
-use Rattle.gb_meaning.specs.Execution.{heard_of}
-use Rattle.gb_meaning.specs.Headline.{Ear, HaveHeard, HearsAll, HearsSome, counted}
+use Rattle.gb_semantics.specs.Execution.{heard_of}
+use Rattle.gb_semantics.specs.Headline.{Ear, HaveHeard, HearsAll, HearsSome, counted}
 use Rattle.gb_report.specs.declared.report.Heard.{Heard}
 use Rattle.gb_report.specs.declared.report.Heard.TheVariants as heard
 use Rattle.gb_report.specs.declared.report.Report.{Report}

@@ -1,8 +1,8 @@
 -- The tasks of a plan by number, and that they start by number as they start by path.
 use Rattle.std.specs.Prelude.{ℕ, ◌≡◌, ◌<◌, ◌≤◌, ◌↔◌, ◌⊎◌, true, List, [], length, Contains, IsTrue}
 use Rattle.std.specs.Prelude.{Some, slice_get, slice_index_or}
-use Rattle.gb_meaning.specs.Label.{Moment, some_outcome}
-use Rattle.gb_meaning.specs.Execution as meant
+use Rattle.gb_semantics.specs.Label.{Moment, some_outcome}
+use Rattle.gb_semantics.specs.Execution as meant
 use Rattle.gb_plan.specs.declared.plan.Planned.{Planned}
 use Rattle.gb_plan.specs.Task.{Path, has_path}
 use Rattle.gb_plan.specs.Graph.{no_repeats, order, needs_in}

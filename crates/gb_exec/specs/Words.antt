@@ -8,10 +8,11 @@ pub use Rattle.gb_folder.specs.Calls.{Requests}
 pub use Rattle.gb_folder.specs.Files.{Bytes, Contents}
 pub use Rattle.gb_history.specs.Places.{record_place}
 pub use Rattle.gb_exec.specs.Notifying.{Refuses}
-pub use Rattle.gb_meaning.specs.Headline.{Agrees, Ear, HasFailed, HaveHeard, HearsAll, TornWritesAreDetected}
-pub use Rattle.gb_meaning.specs.Kinds.{Kinds}
-pub use Rattle.gb_meaning.specs.Memory.{Memory}
-pub use Rattle.gb_meaning.specs.Outline.{Outlines}
+pub use Rattle.gb_semantics.specs.Headline.{Agrees, Ear, HasFailed, HaveHeard, HearsAll}
+pub use Rattle.gb_semantics.specs.Headline.{TornWritesAreDetected}
+pub use Rattle.gb_semantics.specs.Kinds.{Kinds}
+pub use Rattle.gb_semantics.specs.Memory.{Memory}
+pub use Rattle.gb_semantics.specs.Outline.{Outlines}
 pub use Rattle.gb_printer.specs.Printing.{Prints, parts_text}
 pub use Rattle.gb_records.specs.Said.{IsText}
 pub use Rattle.gb_folder.specs.Changes.{ChangesOnly}

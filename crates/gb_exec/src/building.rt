@@ -8,10 +8,10 @@ ghost use Rattle.std.specs.Prelude.{◌≡◌, ◌≤◌, Bool, List, true, not,
 ghost use Rattle.std.specs.List.{AllZip};
 ghost use Rattle.gb_folder.specs.Calls.{Requests, changes_at};
 ghost use Rattle.gb_folder.specs.Files.{Bytes};
-ghost use Rattle.gb_meaning.specs.Headline.{HasFailed, HaveHeard};
-ghost use Rattle.gb_meaning.specs.Kinds.{Kinds};
-ghost use Rattle.gb_meaning.specs.Memory.{Memory};
-ghost use Rattle.gb_meaning.specs.Outline.{Outlines};
+ghost use Rattle.gb_semantics.specs.Headline.{HasFailed, HaveHeard};
+ghost use Rattle.gb_semantics.specs.Kinds.{Kinds};
+ghost use Rattle.gb_semantics.specs.Memory.{Memory};
+ghost use Rattle.gb_semantics.specs.Outline.{Outlines};
 ghost use Rattle.gb_plan.specs.Graph.{order};
 ghost use Rattle.gb_printer.specs.Printing.{Prints, parts_text};
 ghost use Rattle.gb_records.specs.Assumed.{IsAssumed};
@@ -26,8 +26,8 @@ use crate::dry::dry_reports;
 use crate::executions::execute_tasks;
 use crate::heard_laws::reported_is_heard;
 use crate::listener::TaskListener;
+use crate::numbered_tasks::starts_of;
 use crate::one_task::Build;
-use crate::plans::starts_of;
 use gb_action::actions::Actions;
 use gb_action::table::ActionTable;
 use gb_core::path::TaskPath;
@@ -67,7 +67,7 @@ pub fn execute<A: Actions, F: Folder, L: TaskListener, P: Printer>(
     // of the report; a notification that it refused is counted.
     ensures heard { IfOk result (λ report.
         HaveHeard report (map L.ear listeners.old.items) (map L.ear listeners.new.items)) }
-    // The parts of its tasks were printed, or a beginning of them.
+    // The parts of the tasks in the report were printed, in its order, or a beginning of them.
     ensures printed { IfOk result (λ report.
         Prints P.contents P.whole (parts_text report) printer.old printer.new) }
     // Over any folder: task after task, each from the state in which the one before it ended, makes

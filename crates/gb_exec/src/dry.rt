@@ -1,6 +1,6 @@
 //! A dry run: nothing starts, and each task is reported as skipped.
 ghost use Rattle.std.specs.Prelude.{◌≡◌, IfOk};
-ghost use Rattle.gb_meaning.specs.Execution.{dry_reports};
+ghost use Rattle.gb_semantics.specs.Execution.{dry_reports};
 ghost use Rattle.gb_report.specs.declared.report.Outcome.TheVariants.{Skipped};
 ghost use Rattle.gb_exec.specs.Reports.{report_with};
 

@@ -10,11 +10,11 @@ ghost use Rattle.std.specs.Prelude.{replicate, IsTrue, vec_len};
 ghost use Rattle.std.specs.List.{AllZip, flat_map};
 ghost use Rattle.std.specs.Vec.{vec_capacity};
 ghost use Rattle.gb_folder.specs.Files.{Bytes};
-ghost use Rattle.gb_meaning.specs.Headline.{HasFailed};
-ghost use Rattle.gb_meaning.specs.Kinds.{Kinds};
-ghost use Rattle.gb_meaning.specs.Memory.{Memory};
-ghost use Rattle.gb_meaning.specs.Outline.{AreOutlines};
-ghost use Rattle.gb_meaning.specs.Execution.{heard_of};
+ghost use Rattle.gb_semantics.specs.Headline.{HasFailed};
+ghost use Rattle.gb_semantics.specs.Kinds.{Kinds};
+ghost use Rattle.gb_semantics.specs.Memory.{Memory};
+ghost use Rattle.gb_semantics.specs.Outline.{AreOutlines};
+ghost use Rattle.gb_semantics.specs.Execution.{heard_of};
 ghost use Rattle.gb_plan.specs.Graph.{order};
 ghost use Rattle.gb_printer.specs.Printing.{Prints};
 ghost use Rattle.gb_records.specs.Assumed.{IsAssumed};
@@ -40,7 +40,7 @@ use gb_folder::folder::Folder;
 use gb_printer::printer::Printer;
 use gb_report::report::TaskReport;
 use gb_task::case_laws::what_is_read_is_known;
-use gb_tree::seen::Seen;
+use gb_tree::digest_cache::DigestCache;
 use std::alloc::Global;
 
 /// Appends a report. There is room for it.
@@ -57,8 +57,8 @@ fn push_reserved(reports: &mut Vec<TaskReport>, report: TaskReport)
 }
 
 /// Executes all tasks, in their order, prints the part of each as soon as its execution has ended,
-/// and puts their reports into the room that is reserved for them. Returns whether all listeners
-/// were notified of all of it. The paths are those of the tasks.
+/// and puts their reports into the room that is reserved for them. Returns whether each listener
+/// accepted all its notifications. `paths` has the paths of the tasks.
 pub(crate) fn execute_tasks<A: Actions, F: Folder, L: TaskListener, P: Printer>(
     alloc: Global,
     folder: &mut F,
@@ -111,7 +111,7 @@ pub(crate) fn execute_tasks<A: Actions, F: Folder, L: TaskListener, P: Printer>(
     let mut all_heard = true;
     let mut index = 0;
     let mut ahead = Ahead::new(build.options.rerun);
-    let mut seen = Seen::new(alloc);
+    let mut seen = DigestCache::new(alloc);
     for path in paths {
         // For the proof alone: `as_str` states that this is a task's path, which the contract about
         // records needs.

@@ -22,7 +22,7 @@
 //! task with actions has, with which fault it fails, nor what it prints if it ran or failed.
 //!
 //! `starts_of`, `does_start` and `has_executed_need` decide by number which tasks start, from the
-//! outcomes that `end` records; the last three of these take no memory. `starts_by_number` and
+//! outcomes that `end` records; all of these but `starts_of` take no memory. `starts_by_number` and
 //! `needs_by_number` are the laws that this is the definition by path (`Execution.DoesStart`).
 //! `reported_more` and `reported_is_heard` are the laws of listeners.
 //!
@@ -37,8 +37,8 @@ mod heard_laws;
 pub mod listener;
 mod may_start;
 pub mod notifying;
+mod numbered_tasks;
 mod one_task;
-mod plans;
 mod start_laws;
 
 pub use crate::building::execute;

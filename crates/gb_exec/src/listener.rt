@@ -1,6 +1,6 @@
 //! The trait of a listener, and a listener that keeps the notifications that it gets.
 ghost use Rattle.std.specs.Prelude.{◌≡◌, ◌++◌, [], ◌∷◌, OnOk, OnErr};
-ghost use Rattle.gb_meaning.specs.Headline.{HearsAll};
+ghost use Rattle.gb_semantics.specs.Headline.{HearsAll};
 ghost use Rattle.gb_report.specs.declared.report.Heard.TheVariants.{Start, End};
 ghost use Rattle.gb_exec.specs.Notifying.{Refuses};
 
@@ -9,10 +9,10 @@ use gb_report::report::{Heard, Outcome};
 use std::alloc::{AllocError, Global};
 use std::marker::Model;
 
-/// A listener is notified of each task that starts. A call that is refused for memory leaves the
-/// earlier notifications as they are, and is counted.
+/// A listener is notified of each task that starts. A call that it refuses, for want of memory or
+/// of its own accord, leaves the earlier notifications as they are, and is counted.
 pub trait TaskListener: Drop {
-    ghost use Rattle.gb_meaning.specs.Headline.{Ear};
+    ghost use Rattle.gb_semantics.specs.Headline.{Ear};
 
     /// The notifications that it got, and how many calls it has refused: one more for each, up to
     /// 2^64 - 1.

@@ -1,6 +1,6 @@
 //! The notification of all listeners.
 ghost use Rattle.std.specs.Prelude.{◌≡◌, ◌∷◌, [], map, true, false};
-ghost use Rattle.gb_meaning.specs.Headline.{HearsAll};
+ghost use Rattle.gb_semantics.specs.Headline.{HearsAll};
 ghost use Rattle.gb_exec.specs.Notifying.{AllReported, Refuses, reported_of};
 
 use crate::listener::TaskListener;

@@ -7,16 +7,16 @@ ghost use Rattle.std.specs.Prelude.{◌≡◌, ◌<◌, [], ◌∷◌, ℕ, List
 ghost use Rattle.std.specs.Prelude.{slice_get, slice_index_or};
 ghost use Rattle.gb_folder.specs.Calls.{Requests, no_change};
 ghost use Rattle.gb_folder.specs.Files.{HasRisen};
-ghost use Rattle.gb_meaning.specs.Kinds.{Kinds};
-ghost use Rattle.gb_meaning.specs.Label.{Moment};
-ghost use Rattle.gb_meaning.specs.Outline.{IsOutline};
-ghost use Rattle.gb_meaning.specs.TrueRecord.{outside};
-ghost use Rattle.gb_meaning.specs.Execution.{heard_of};
+ghost use Rattle.gb_semantics.specs.Kinds.{Kinds};
+ghost use Rattle.gb_semantics.specs.Label.{Moment};
+ghost use Rattle.gb_semantics.specs.Outline.{IsOutline};
+ghost use Rattle.gb_semantics.specs.TrueRecord.{outside};
+ghost use Rattle.gb_semantics.specs.Execution.{heard_of};
 ghost use Rattle.gb_plan.specs.declared.plan.Planned.{Planned};
 ghost use Rattle.gb_records.specs.Assumed.{IsAssumed};
 ghost use Rattle.gb_records.specs.Holding.{HoldsRecords};
 ghost use Rattle.gb_report.specs.declared.report.Outcome.TheVariants.{Failed, NotRun};
-ghost use Rattle.gb_tree.specs.Seen.{AreSeen};
+ghost use Rattle.gb_tree.specs.DigestCache.{AreCached};
 ghost use Rattle.gb_task.specs.Case.{IsKnown};
 ghost use Rattle.gb_task.specs.ByOutcome.{ExecutionRequests, since_after};
 ghost use Rattle.gb_task.specs.Executing.{Registering, setting_with};
@@ -42,7 +42,7 @@ use gb_plan::plan::Planned;
 use gb_report::fault::Fault;
 use gb_report::report::{Options, Outcome, TaskReport};
 use gb_task::execution::execute_task;
-use gb_tree::seen::Seen;
+use gb_tree::digest_cache::DigestCache;
 use std::alloc::Global;
 
 /// The input of a build: its tasks in their order, what is stored of their actions, the record that
@@ -86,7 +86,7 @@ pub(crate) fn execute_one<A: Actions, F: Folder, L: TaskListener>(
     path: TaskPath,
     next: &[Place],
     listeners: &mut Vec<L>,
-    seen: &mut Seen,
+    seen: &mut DigestCache,
 ) -> OneEnded
     requires can { CanBuild A.meanings build.now.table.now build.now.tasks.now }
     requires of_plan { AreOfPlan build.now.tasks.now starts.old }
@@ -103,13 +103,13 @@ pub(crate) fn execute_one<A: Actions, F: Folder, L: TaskListener>(
     // since the last change.
     ensures requests { (planned : Planned) → slice_get build.now.tasks.now index ≡ Some planned
         → (since : _) → Requests F.device no_change since folder.old
-        → AreSeen F.device since folder.old seen.old
+        → AreCached F.device since folder.old seen.old
         → ExecutionRequests F.device A.meanings build.now.table.now build.now.options
         planned.task (slice_index_or build.now.records.now index None) result.report.outcome
         result.report.lines since folder.old folder.new }
     ensures seen { (since : _) → Requests F.device no_change since folder.old
-        → AreSeen F.device since folder.old seen.old
-        → AreSeen F.device (since_after result.report.outcome since folder.new)
+        → AreCached F.device since folder.old seen.old
+        → AreCached F.device (since_after result.report.outcome since folder.new)
         folder.new seen.new }
     ensures blame { (place : List ℕ) → result.report.outcome ≡ Failed (Fault.Device place)
         → HasRisen (F.device.failures folder.old) (F.device.failures folder.new) }
@@ -122,7 +122,7 @@ pub(crate) fn execute_one<A: Actions, F: Folder, L: TaskListener>(
     // If the record that was read is a true record of the task (`IsKnown`), this is its execution
     // as defined.
     ensures execution { F.device.faithful folder.new → (since : _)
-        → Requests F.device no_change since folder.old → AreSeen F.device since folder.old seen.old
+        → Requests F.device no_change since folder.old → AreCached F.device since folder.old seen.old
         → (kinds : Kinds) (registry_of : Registering) (moment : Moment) (planned : Planned)
         → slice_get build.now.tasks.now index ≡ Some planned
         → IsAssumed A.meanings build.now.table.now kinds (F.device.may_leave folder.old)

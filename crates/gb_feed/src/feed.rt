@@ -22,8 +22,8 @@ use gb_kinds::arguments::first_text;
 use gb_kinds::known_names::{rel_path, source_name};
 use gb_pages::dates::{date_of, put_entry};
 use gb_pages::front_matter::title_of;
-use gb_pages::index::{latest_first, second_text};
-use gb_pages::paths::{page_path, stem};
+use gb_pages::index_page::{latest_first, second_text};
+use gb_pages::page_paths::{page_path, stem};
 use gb_with::tree_kind::{TreeKind, files_of};
 use std::alloc::{AllocError, Global};
 

@@ -17,7 +17,7 @@ use gb_core::place::RelPath;
 use gb_kinds::arguments::first_text;
 use gb_kinds::known_names::{rel_path, source_name};
 use gb_pages::dates::date_of;
-use gb_pages::paths::{page_path, stem};
+use gb_pages::page_paths::{page_path, stem};
 use gb_with::tree_kind::{TreeKind, files_of};
 use std::alloc::{AllocError, Global};
 

@@ -2,7 +2,8 @@
 use Rattle.std.specs.Prelude.{◌≡◌, ◌≤◌, Bool, Option, Some, None, IsTrue, ⊤}
 use Rattle.gb_folder.specs.Files.{Place, Bytes, Contents, SameTearing}
 use Rattle.gb_folder.specs.Device.{IsCalled}
-pub use Rattle.gb_folder.specs.Call.{Call, Lists, Reads, ReadsPart, Writes, Removes, answered, fault_of, Device}
+pub use Rattle.gb_folder.specs.Call.{Call, Device, Lists, Reads, ReadsPart, Writes, Removes}
+pub use Rattle.gb_folder.specs.Call.{answered, fault_of}
 
 -- Which change may be requested at a place: to write these bytes, or to remove the file there.
 abbrev pub Permit : Type 1

@@ -45,10 +45,10 @@ IsWell (Removes place answer) = RemovesWell answer
 
 -- ---- Calls
 
--- One call of a folder, with its answer: the type of the folder allows it (`allowed`), some contents could give
--- the answer (`well`), the count of failures does not fall and rises if the device failed (`count`, `risen`), a
--- torn write still leaves what it left (`tearing`). Where contents are known afterwards, they were before
--- (`back`), and the answer is exactly theirs (`exact`).
+-- One call of a folder, with its answer: the type of the folder allows it (`allowed`), some contents could
+-- give the answer (`well`), the count of failures does not fall and rises if the device failed (`count`,
+-- `risen`), a torn write may leave what it might before (`tearing`). Where contents are known afterwards,
+-- they were before (`back`), and the answer is exactly theirs (`exact`).
 pub record IsCalled {F : Type 0} (device : Device F) (old : F) (call : Call) (new : F) : Type 0 where
   pub allowed : device.allowed old call new
   pub well : IsWell call

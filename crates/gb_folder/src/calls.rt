@@ -1,4 +1,4 @@
-//! The five calls of a folder, and what each says, fact by fact.
+//! The five calls of a folder, and what holds after each, fact by fact.
 //!
 //! All of it follows from `called`, the one clause of the trait's method.
 ghost use Rattle.std.specs.Prelude.{◌≡◌, ◌≢◌, ◌<◌, ◌≤◌, ℕ, List, Option, Some, None, false, length};
@@ -31,7 +31,9 @@ pub fn list<F: Folder>(
         (λ places. AllPass (λ place. is_under place root.now) places.items) }
     ensures ordered { IfOk result (λ places. IsStrictlySortedBy byte_order places.items) }
     ensures not_large { result ≢ Err FolderFault.TooLarge }
-    // Where the contents are known after the call.
+    // Where the contents are known after the call, the places are those of all files at or under
+    // the root, and no entry there is special. `BadFileName` means that one is. `Missing` and
+    // `Blocked` do not occur.
     ensures listed { F.device.faithful folder.new → IfOk result
         (λ places. places.items ≡ places_under (F.device.contents folder.old).files root.now) }
     ensures none_special { F.device.faithful folder.new → OnOk result
@@ -57,7 +59,9 @@ pub fn read<F: Folder>(
         → HasRisen (F.device.failures folder.old) (F.device.failures folder.new) }
     ensures within { IfOk result (λ bytes. length bytes.items ≤ limit) }
     ensures not_named { result ≢ Err FolderFault.BadFileName }
-    // Where the contents are known after the call.
+    // Where the contents are known after the call, the bytes are those of the file at the place.
+    // `Missing` means that no file is there and none is in the way, `Blocked` that one is in the
+    // way, and `TooLarge` that the file has more than `limit` bytes.
     ensures found { F.device.faithful folder.new → IfOk result
         (λ bytes. file_at (F.device.contents folder.old).files place.now ≡ Some bytes.items) }
     ensures missing { F.device.faithful folder.new → IsErrOf result FolderFault.Missing
@@ -88,7 +92,9 @@ pub fn read_part<F: Folder>(
     ensures within { IfOk result (λ part. length part.items ≤ len) }
     ensures not_large { result ≢ Err FolderFault.TooLarge }
     ensures not_named { result ≢ Err FolderFault.BadFileName }
-    // Where the contents are known after the call.
+    // Where the contents are known after the call, the bytes are those of the file from `at` on,
+    // `len` of them or as many as there are. `Missing` means that no file is there and none is in
+    // the way, `Blocked` that one is in the way.
     ensures found { F.device.faithful folder.new → IfOk result
         (λ part. IsSomeAnd (file_at (F.device.contents folder.old).files place.now)
         (λ bytes. part.items ≡ take len (drop at bytes))) }
@@ -117,7 +123,10 @@ pub fn write<F: Folder>(
     ensures large { IsErrOf result FolderFault.TooLarge → limit < length bytes.now }
     ensures not_missing { result ≢ Err FolderFault.Missing }
     ensures not_named { result ≢ Err FolderFault.BadFileName }
-    // Where the contents are known after the call.
+    // Where the contents are known after the call, the place has a file with these bytes, no file
+    // was in its way, and all else is as before. `Blocked` means that a file is in the way. After a
+    // fault nothing has changed, but after `Device` the place has what a stopped write may leave
+    // there.
     ensures written { F.device.faithful folder.new → OnOk result
         (F.device.contents folder.new ≡ record (F.device.contents folder.old) {
           files = with_file (F.device.contents folder.old).files place.now bytes.now;
@@ -147,7 +156,10 @@ pub fn remove<F: Folder>(folder: &mut F, place: &Place) -> Result<(), FolderFaul
         → HasRisen (F.device.failures folder.old) (F.device.failures folder.new) }
     ensures not_large { result ≢ Err FolderFault.TooLarge }
     ensures not_named { result ≢ Err FolderFault.BadFileName }
-    // Where the contents are known after the call.
+    // Where the contents are known after the call, the place had a file and has none now, and all
+    // else is as before. `Missing` means that no file is there and none is in the way, `Blocked`
+    // that one is in the way. After a fault nothing has changed, but after `Device` the place has
+    // what a stopped removal may leave there.
     ensures removed { F.device.faithful folder.new → OnOk result
         (F.device.contents folder.new ≡ record (F.device.contents folder.old) {
           files = without (F.device.contents folder.old).files place.now;

@@ -12,9 +12,11 @@ use crate::folder::{Folder, FolderFault};
 use gb_core::place::Place;
 use gb_report::fault::Fault;
 
-/// Removes the files at these places, one after another. A place without a file counts as done.
+/// Removes the files at these places, one after another. A place without a file counts as done. An
+/// error is the fault of the first removal that failed (3, 10), and no later place is treated.
 pub fn remove_all<F: Folder>(folder: &mut F, places: &[Place]) -> Result<(), Fault>
-    // Over any folder: by these calls.
+    // Over any folder: these calls were made, a removal for each place, up to the first that
+    // failed.
     ensures calls { (calls : List Call) × Leads F.device folder.old calls folder.new
         × Removals places.now calls result }
     ensures requests { Requests F.device (takes_at (is_among places.now)) folder.old
@@ -38,7 +40,7 @@ pub fn remove_all<F: Folder>(folder: &mut F, places: &[Place]) -> Result<(), Fau
 /// Removes the file at a place, if there is one. The place is copied first, so that a failure of
 /// the device is reported with its place whatever memory is left.
 pub fn remove_at<F: Folder>(folder: &mut F, place: &Place) -> Result<(), Fault>
-    // Over any folder: by one call.
+    // Over any folder: one call of `remove` was made, or memory ran out before it.
     ensures call { WasRemoved F.device place.now folder.old result folder.new }
     ensures requests { Requests F.device (taken_at place.now) folder.old folder.new }
     ensures blame { Blames result (F.device.failures folder.old) (F.device.failures folder.new) }
@@ -59,7 +61,7 @@ pub fn remove_at<F: Folder>(folder: &mut F, place: &Place) -> Result<(), Fault>
     }
 }
 
-/// The fault of a removal, unless it says that there is no file to remove.
+/// The fault of a removal, unless it means that there is no file to remove.
 fn unless_absent(fault: FolderFault, place: Place) -> Result<(), Fault>
     ensures { result ≡ unless_absent place fault }
 {

@@ -2,7 +2,7 @@
 use Rattle.std.proofs.Common.{◌≡◌, ℕ, ◌≤◌, List, [], length, map, IsUtf8, sym, ap, subst, ◌∙◌}
 use Rattle.gb_script.specs.Grammar.{Leveled}
 use Rattle.gb_script.specs.Lexing.{Piece, IsCut}
-use Rattle.gb_script.specs.Notation.{IsSpelled}
+use Rattle.gb_script.specs.Notation.{ParsesTo}
 use Rattle.gb_format.specs.Layout.{items, kept, tidy, layout, observed}
 use Rattle.gb_format.specs.Pieces.{pieces_of}
 use Rattle.gb_format.specs.Shown.{IsWhole, shown_from, typeset}
@@ -40,12 +40,12 @@ is_formatted text out w h =
     }
 
 -- if a text parses as a value, the formatted text parses as it, too
-pub formatted_spells : {A : Type 0} (Is : A → Type 0) (spelled : A → List Leveled) (text out : List ℕ) → IsWhole text → out ≡ formatted text → length out ≤ 1048576 → IsUtf8 out → (reported : A) → IsSpelled Is spelled text reported → IsSpelled Is spelled out reported
-formatted_spells Is spelled text out w h short utf8 reported s =
+pub formatted_parses : {A : Type 0} (Is : A → Type 0) (spelled : A → List Leveled) (text out : List ℕ) → IsWhole text → out ≡ formatted text → length out ≤ 1048576 → IsUtf8 out → (reported : A) → ParsesTo Is spelled text reported → ParsesTo Is spelled out reported
+formatted_parses Is spelled text out w h short utf8 reported s =
     let same : out ≡ layout rules w.pieces = h ∙ formatted_is text w.pieces w.cut in
-    subst (λ (l : List ℕ). IsSpelled Is spelled l reported) (sym same)
+    subst (λ (l : List ℕ). ParsesTo Is spelled l reported) (sym same)
     (spelled_same Is spelled rules steady text w.pieces reported w.cut s (subst (λ (l : List ℕ). length l ≤ 1048576) same short) (subst IsUtf8 same utf8))
 
 -- a text that is read consists of pieces up to its end
-pub read_whole : {A : Type 0} (Is : A → Type 0) (spelled : A → List Leveled) → ((a : A) → Real (spelled a)) → (text : List ℕ) (reported : A) → IsSpelled Is spelled text reported → IsWhole text
+pub read_whole : {A : Type 0} (Is : A → Type 0) (spelled : A → List Leveled) → ((a : A) → Real (spelled a)) → (text : List ℕ) (reported : A) → ParsesTo Is spelled text reported → IsWhole text
 read_whole Is spelled real text reported s = let w = whole Is spelled real text reported s in record { pieces = w.0; cut = w.1 }

@@ -6,7 +6,7 @@ use Rattle.gb_script.specs.declared.fault.ScriptFault.{ScriptFault}
 use Rattle.gb_script.specs.declared.fault.ScriptFault.TheVariants.{OutOfMemory, TooLong}
 use Rattle.gb_script.specs.declared.script.Statement.{Statement}
 use Rattle.gb_script.specs.Lexing.{is_blank, IsCut}
-use Rattle.gb_script.specs.Script.{Spells, SpellsSettings}
+use Rattle.gb_script.specs.Script.{ParsesAs, ParsesAsSettings}
 use Rattle.gb_format.specs.Layout.{kept, tidy}
 use Rattle.gb_format.specs.Pieces.{pieces_of}
 use Rattle.gb_format.specs.Shown.{shown_in, typeset}
@@ -38,12 +38,12 @@ pub record IsFormatted (text out : List ℕ) : Type 0 where
 
 -- both texts are the same script
 abbrev pub AreSameScript : List ℕ → List ℕ → Type 0
-AreSameScript text out = (script : List Statement) × Spells text script × Spells out script
+AreSameScript text out = (script : List Statement) × ParsesAs text script × ParsesAs out script
 
 -- both texts are the same settings
 abbrev pub AreSameSettings : List ℕ → List ℕ → Type 0
 AreSameSettings text out =
-    (settings : List (List (List ℕ))) × SpellsSettings text settings × SpellsSettings out settings
+    (settings : List (List (List ℕ))) × ParsesAsSettings text settings × ParsesAsSettings out settings
 
 -- the fault of a text that can be read but not formatted
 abbrev pub IsLayoutFault : List ℕ → ScriptFault → Type 0

@@ -1,7 +1,7 @@
 //! The formatted text of scripts and settings.
 ghost use Rattle.std.specs.Prelude.{◌≡◌, ℕ, ◌<◌, ◌≤◌, ◌⊎◌, List, length, IfOk, IfErr, Err, IsUtf8};
 ghost use Rattle.std.specs.Prelude.{string_bytes};
-ghost use Rattle.gb_script.specs.Script.{Says, SaysAsSettings};
+ghost use Rattle.gb_script.specs.Script.{HasMeaning, MeansAsSettings};
 ghost use Rattle.gb_format.specs.Shown.{IsWhole};
 ghost use Rattle.gb_format.specs.Formatted.{formatted, AreSameScript, AreSameSettings, IsFormatted};
 ghost use Rattle.gb_format.specs.Formatted.{IsLayoutFault};
@@ -60,7 +60,7 @@ pub fn format_script(alloc: Global, bytes: &[u8]) -> Result<String, ScriptFault>
     ensures found { IfOk result (λ out. IsFormatted bytes.now (string_bytes out)) }
     // The bytes are a script, and the formatted text is the same script.
     ensures same { IfOk result (λ out. AreSameScript bytes.now (string_bytes out)) }
-    ensures fault { IfErr result (λ fault. Says bytes.now (Err fault) ⊎ IsLayoutFault bytes.now fault) }
+    ensures fault { IfErr result (λ fault. HasMeaning bytes.now (Err fault) ⊎ IsLayoutFault bytes.now fault) }
 {
     let script = read_script(alloc, bytes)?;
     drop(script);
@@ -74,7 +74,7 @@ pub fn format_settings(alloc: Global, bytes: &[u8]) -> Result<String, ScriptFaul
     ensures found { IfOk result (λ out. IsFormatted bytes.now (string_bytes out)) }
     // The bytes are settings, and the formatted text is the same settings.
     ensures same { IfOk result (λ out. AreSameSettings bytes.now (string_bytes out)) }
-    ensures fault { IfErr result (λ fault. SaysAsSettings bytes.now (Err fault)
+    ensures fault { IfErr result (λ fault. MeansAsSettings bytes.now (Err fault)
         ⊎ IsLayoutFault bytes.now fault) }
 {
     let settings = read_settings(alloc, bytes)?;

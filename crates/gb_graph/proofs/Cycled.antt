@@ -17,7 +17,7 @@ use Rattle.gb_plan.specs.Refusal as refusal
 use Rattle.gb_plan.proofs.Tests.{not_true, or_right, all_of_members, in_filter, into_filter}
 use Rattle.gb_plan.proofs.Same.{In, planned_at, path_of_in}
 use Rattle.gb_graph.specs.Order.{row}
-use Rattle.gb_graph.specs.Settled.{exists_in}
+use Rattle.gb_graph.specs.Settled.{is_marked}
 use Rattle.gb_graph.specs.Ranked.{AreRanked, AreRanks, AreSame, IsArranged}
 use Rattle.gb_graph.specs.Words.{AreScheduled}
 use Rattle.gb_graph.specs.Cycle.{IsLeastNumber, IsNextNumber, IsRound, LeadsTo, is_there, goes, path_at}
@@ -60,7 +60,7 @@ from_after plan path other z (y ∷ ys) (inr i) e h =
     ]
 
 module _ (tasks : List Planned) (ranked : AreRanked tasks) (table : List (List ℕ)) (done others : List ℕ) (ranks : AreRanks tasks table done others) (d : Planned)
-    (marks : List Bool) (shows : (k : ℕ) → exists_in marks k ≡ true → Contains others k) (marked : (k : ℕ) → Contains others k → exists_in marks k ≡ true) where
+    (marks : List Bool) (shows : (k : ℕ) → is_marked marks k ≡ true → Contains others k) (marked : (k : ℕ) → Contains others k → is_marked marks k ≡ true) where
   abbrev f : ℕ → Planned
   f k = get_or tasks k d
 
@@ -101,7 +101,7 @@ module _ (tasks : List Planned) (ranked : AreRanked tasks) (table : List (List �
   not_before j k lj lk e = ap not (sym (λ i. is_lt (byte_order (path_is j lj i) (path_is k lk i))) ∙ e)
 
   -- a least number of some has the least path of them
-  least_path : (numbers : List ℕ) → ((k : ℕ) → Contains numbers k → k < length tasks) → ((k : ℕ) → Contains numbers k → exists_in marks k ≡ true) → (k : ℕ) → IsLeastNumber tasks numbers marks k → IsLeastOf (map path numbers) (path k)
+  least_path : (numbers : List ℕ) → ((k : ℕ) → Contains numbers k → k < length tasks) → ((k : ℕ) → Contains numbers k → is_marked marks k ≡ true) → (k : ℕ) → IsLeastNumber tasks numbers marks k → IsLeastOf (map path numbers) (path k)
   least_path numbers low all k is = record {
     is_in = has_mapped path numbers k (in_of numbers k is.is_in);
     least = all_of_members (λ other. not (is_lt (byte_order other (path k)))) (map path numbers) (λ p h.
@@ -137,14 +137,14 @@ module _ (tasks : List Planned) (ranked : AreRanked tasks) (table : List (List �
   way_path a b xs la is_there = refusal.is_there
   way_path a b xs la (goes {next = next} {passed = passed} s way) = refusal.goes (step_path a next la s) (way_path next b passed (known next (shows next s.marked)) way)
 
-  way_marked : (a b : ℕ) (xs : List ℕ) → exists_in marks a ≡ true → LeadsTo (IsNextNumber tasks table marks) a xs b → (k : ℕ) → In k xs → exists_in marks k ≡ true
+  way_marked : (a b : ℕ) (xs : List ℕ) → is_marked marks a ≡ true → LeadsTo (IsNextNumber tasks table marks) a xs b → (k : ℕ) → In k xs → is_marked marks k ≡ true
   way_marked a b xs m is_there k i = absurd i
-  way_marked a b xs m (goes {next = next} {passed = passed} s way) k (inl e) = ap (exists_in marks) e ∙ m
+  way_marked a b xs m (goes {next = next} {passed = passed} s way) k (inl e) = ap (is_marked marks) e ∙ m
   way_marked a b xs m (goes {next = next} {passed = passed} s way) k (inr i) = way_marked next b passed s.marked way k i
 
   pub cycle_is : (cycle : List ℕ) → IsRound tasks table marks others cycle → IsCycle plan unplaced (map path cycle)
   cycle_is cycle is =
-      let all : (k : ℕ) → Contains cycle k → exists_in marks k ≡ true = λ k c. way_marked is.first is.first cycle is.least_first.marked is.goes_round k (in_of cycle k c) in
+      let all : (k : ℕ) → Contains cycle k → is_marked marks k ≡ true = λ k c. way_marked is.first is.first cycle is.least_first.marked is.goes_round k (in_of cycle k c) in
       let low : (k : ℕ) → Contains cycle k → k < length tasks = λ k c. known k (shows k (all k c)) in
       record {
         start = path is.start;

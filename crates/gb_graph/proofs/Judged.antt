@@ -21,7 +21,7 @@ use Rattle.gb_graph.specs.declared.conflicting.Search.TheVariants.{Overlaps, Own
 use Rattle.gb_graph.specs.declared.places.TaskPlace.{TaskPlace}
 use Rattle.gb_graph.specs.declared.plan_tables.Tables.{Tables}
 use Rattle.gb_graph.specs.Places.{AreSamePlaces, places_from, with_places}
-use Rattle.gb_graph.specs.Conflicts.{AreTables, IsLeast, IsMet, Meets, places_for}
+use Rattle.gb_graph.specs.Conflicts.{AreTables, IsLeast, IsConflictThere, IsConflict, places_for}
 use Rattle.gb_graph.proofs.Bridges.{At, in_at, at_get, any_in, some_in, parted, of_row}
 use Rattle.gb_graph.proofs.Lesser.{least_same}
 use Rattle.gb_graph.proofs.Thinned.{met_thinned, met_whole}
@@ -51,21 +51,21 @@ module _ (plan : Plan) (once : no_repeats (order plan) ≡ true) (tables : Table
   abbrev chained : List (List ℕ)
   chained = rows tables.chains.items
 
-  pub least_meets : (search : Search) (o : Option Found) → IsLeast (IsMet search chained plan tables.outputs.items (places_for tables search)) o → IsLeast (Meets plan search) o
+  pub least_meets : (search : Search) (o : Option Found) → IsLeast (IsConflictThere search chained plan tables.outputs.items (places_for tables search)) o → IsLeast (IsConflict plan search) o
   least_meets Overlaps o h =
-      least_same (IsMet Overlaps chained plan outs outs) (IsOverlap plan) (to_overlap plan once outs (same_row outs) chained) (of_overlap plan once outs (same_row outs) chained) o
-      (least_same (IsMet Overlaps chained plan tables.outputs.items tables.outputs.items) (IsMet Overlaps chained plan outs outs)
+      least_same (IsConflictThere Overlaps chained plan outs outs) (IsOverlap plan) (to_overlap plan once outs (same_row outs) chained) (of_overlap plan once outs (same_row outs) chained) o
+      (least_same (IsConflictThere Overlaps chained plan tables.outputs.items tables.outputs.items) (IsConflictThere Overlaps chained plan outs outs)
       (met_whole Overlaps chained plan outs tables.outputs.items are.outputs outs tables.outputs.items are.outputs)
       (met_thinned Overlaps chained plan outs tables.outputs.items are.outputs outs tables.outputs.items are.outputs) o h)
   least_meets OwnInputs o h =
-      least_same (IsMet OwnInputs chained plan outs ins) (IsOwnInput plan) (to_own plan once outs (same_row outs) ins (same_row ins) chained) (of_own plan once outs (same_row outs) ins (same_row ins) chained) o
-      (least_same (IsMet OwnInputs chained plan tables.outputs.items tables.roots.items) (IsMet OwnInputs chained plan outs ins)
+      least_same (IsConflictThere OwnInputs chained plan outs ins) (IsOwnInput plan) (to_own plan once outs (same_row outs) ins (same_row ins) chained) (of_own plan once outs (same_row outs) ins (same_row ins) chained) o
+      (least_same (IsConflictThere OwnInputs chained plan tables.outputs.items tables.roots.items) (IsConflictThere OwnInputs chained plan outs ins)
       (met_whole OwnInputs chained plan outs tables.outputs.items are.outputs ins tables.roots.items are.roots)
       (met_thinned OwnInputs chained plan outs tables.outputs.items are.outputs ins tables.roots.items are.roots) o h)
   least_meets Undeclared o h =
-      least_same (IsMet Undeclared chained plan outs ins) (IsUndeclared plan)
+      least_same (IsConflictThere Undeclared chained plan outs ins) (IsUndeclared plan)
       (to_undeclared plan once outs (same_row outs) ins (same_row ins) chained are.chains) (of_undeclared plan once outs (same_row outs) ins (same_row ins) chained are.chains) o
-      (least_same (IsMet Undeclared chained plan tables.outputs.items tables.roots.items) (IsMet Undeclared chained plan outs ins)
+      (least_same (IsConflictThere Undeclared chained plan tables.outputs.items tables.roots.items) (IsConflictThere Undeclared chained plan outs ins)
       (met_whole Undeclared chained plan outs tables.outputs.items are.outputs ins tables.roots.items are.roots)
       (met_thinned Undeclared chained plan outs tables.outputs.items are.outputs ins tables.roots.items are.roots) o h)
 

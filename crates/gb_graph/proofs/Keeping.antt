@@ -8,20 +8,20 @@ use Rattle.std.proofs.lemmas.List.Elements.{Contains-append_left, Contains-appen
 use Rattle.std.specs.List.{list_any}
 use Rattle.std.specs.Ordering.{nat_cmp, is_eq, is_gt}
 use Rattle.gb_graph.specs.Order.{row, IsReady, IsNext, AreTasks}
-use Rattle.gb_graph.specs.Settled.{Keeps, IsSettled, IsPutReady, IsPutWaiting, exists_in, missing}
+use Rattle.gb_graph.specs.Settled.{Keeps, IsSettled, IsPutReady, IsPutWaiting, is_marked, missing}
 
 pub one_contained : (t u : ℕ) → Contains (t ∷ []) u → u ≡ t
 one_contained t u h = let z : h.0 ≡ 0 = omega (arith, h.1) in sym (subst (λ k. get_or (t ∷ []) k u ≡ u) z h.2)
 
 -- ---- Marks
 
-pub mark_kept : (exists : List Bool) (t u : ℕ) → t < length exists → exists_in exists u ≡ true → exists_in (set exists t true) u ≡ true
+pub mark_kept : (exists : List Bool) (t u : ℕ) → t < length exists → is_marked exists u ≡ true → is_marked (set exists t true) u ≡ true
 mark_kept exists t u lt h = elim (cases_eq u t) [
-  | inl e ↦ subst (λ k. exists_in (set exists t true) k ≡ true) (sym e) (get_or-set_same exists t true false lt)
+  | inl e ↦ subst (λ k. is_marked (set exists t true) k ≡ true) (sym e) (get_or-set_same exists t true false lt)
   | inr n ↦ get_or-set_other exists t u true false n ∙ h
 ]
 
-pub mark_other : (exists : List Bool) (t u : ℕ) → u ≢ t → exists_in (set exists t true) u ≡ exists_in exists u
+pub mark_other : (exists : List Bool) (t u : ℕ) → u ≢ t → is_marked (set exists t true) u ≡ is_marked exists u
 mark_other exists t u n = get_or-set_other exists t u true false n
 
 pub not_both : {b : Bool} {A : Type 0} → b ≡ true → b ≡ false → A
@@ -70,7 +70,7 @@ module _ (after : List (List ℕ)) (exists : List Bool) (w w' : List (List ℕ))
     existing = k.existing;
     closed = k.closed;
     ready_known = λ u h. elim (s.only u h) [ inl e ↦ subst (λ v. v < length after) (sym e) (k.loose_known t is) | inr g ↦ k.ready_known u g ];
-    ready_waits = λ u h. elim (s.only u h) [ inl e ↦ subst (λ v. exists_in exists v ≡ false) (sym e) (k.loose_waits t is) | inr g ↦ k.ready_waits u g ];
+    ready_waits = λ u h. elim (s.only u h) [ inl e ↦ subst (λ v. is_marked exists v ≡ false) (sym e) (k.loose_waits t is) | inr g ↦ k.ready_waits u g ];
     ready_after = λ u p h c. elim (s.only u h) [ inl e ↦ s.all_exist p (subst (λ v. Contains (row after v) p) e c) | inr g ↦ k.ready_after u p g c ];
     waits_known = λ p u h. k.waits_known p u (subst (λ x. Contains (row x p) u) s.same h);
     waits_after = λ p u h. k.waits_after p u (subst (λ x. Contains (row x p) u) s.same h);
@@ -131,7 +131,7 @@ module _ (after : List (List ℕ)) (exists : List Bool) (w : List (List ℕ)) (r
     known = k.ready_known t is;
     waits = λ h. not_both (k.marked t h) (k.ready_waits t is);
     ready = λ p c. k.existing p (k.ready_after t p is c);
-    least = λ u known absent ready. elim (cases_Bool (exists_in exists u)) [
+    least = λ u known absent ready. elim (cases_Bool (is_marked exists u)) [
       | inl s ↦ absurd (absent (k.existing u s))
       | inr m ↦ elim (k.somewhere u known m) [
         | inl l ↦ absurd (empty u l)
@@ -147,13 +147,13 @@ module _ (after : List (List ℕ)) (exists : List Bool) (w : List (List ℕ)) (r
       let lt : t < length exists = omega (arith, k.ready_known t is, k.marks) in
       let ltw : t < length w = omega (arith, k.ready_known t is, k.places) in
       let other : (u : ℕ) → Contains (row w t) u → u ≢ t = λ u h e. not_both (k.ready_after t t is (subst (λ v. Contains (row after v) t) e (k.waits_after t u h))) (k.ready_waits t is) in
-      let not_t : (u : ℕ) → exists_in (set exists t true) u ≡ false → u ≢ t = λ u h e. not_both (get_or-set_same exists t true false lt) (subst (λ v. exists_in (set exists t true) v ≡ false) e h) in
+      let not_t : (u : ℕ) → is_marked (set exists t true) u ≡ false → u ≢ t = λ u h e. not_both (get_or-set_same exists t true false lt) (subst (λ v. is_marked (set exists t true) v ≡ false) e h) in
       record {
         marks = length-set exists t true ∙ k.marks;
         places = length-set w t [] ∙ k.places;
         marked = λ u h. elim (Contains-append_cases order (t ∷ []) u h) [
           | inl o ↦ mark_kept exists t u lt (k.marked u o)
-          | inr n ↦ subst (λ v. exists_in (set exists t true) v ≡ true) (sym (one_contained t u n)) (get_or-set_same exists t true false lt)
+          | inr n ↦ subst (λ v. is_marked (set exists t true) v ≡ true) (sym (one_contained t u n)) (get_or-set_same exists t true false lt)
         ];
         existing = λ u h. elim (cases_eq u t) [
           | inl e ↦ subst (λ v. Contains (order ++ t ∷ []) v) (sym e) (Contains-push order t)
@@ -169,7 +169,7 @@ module _ (after : List (List ℕ)) (exists : List Bool) (w : List (List ℕ)) (r
         waits_known = λ p u h. k.waits_known p u (row_emptied w t p u ltw h).1;
         waits_after = λ p u h. k.waits_after p u (row_emptied w t p u ltw h).1;
         loose_known = λ u l. k.waits_known t u l;
-        loose_waits = λ u l. mark_other exists t u (other u l) ∙ elim (cases_Bool (exists_in exists u)) [
+        loose_waits = λ u l. mark_other exists t u (other u l) ∙ elim (cases_Bool (is_marked exists u)) [
           | inl s ↦ not_both (k.closed u t s (k.waits_after t u l)) (k.ready_waits t is)
           | inr m ↦ m
         ];
@@ -189,7 +189,7 @@ module _ (after : List (List ℕ)) (exists : List Bool) (w : List (List ℕ)) (r
 
 pub is_whole : (after : List (List ℕ)) (exists : List Bool) (w : List (List ℕ)) (r : ℕ → Bool) (order : List ℕ) (none : ℕ → Type 0) → Keeps after exists w r order none
     → ((u : ℕ) → none u → ⊥) → ((u : ℕ) → r u ≡ true → ⊥) → (u : ℕ) → u < length after → (Contains order u → ⊥) → IsReady after order u → ⊥
-is_whole after exists w r order none k empty no_ready u known absent ready = elim (cases_Bool (exists_in exists u)) [
+is_whole after exists w r order none k empty no_ready u known absent ready = elim (cases_Bool (is_marked exists u)) [
   | inl s ↦ absent (k.existing u s)
   | inr m ↦ elim (k.somewhere u known m) [
     | inl l ↦ empty u l
@@ -208,7 +208,7 @@ row_more (x ∷ ws) (suc k) h = row_more ws k (λ j. h (suc j))
 
 -- ---- How many are not placed yet
 
-pub fewer : (exists : List Bool) (t : ℕ) → t < length exists → exists_in exists t ≡ false → missing (set exists t true) < missing exists
+pub fewer : (exists : List Bool) (t : ℕ) → t < length exists → is_marked exists t ≡ false → missing (set exists t true) < missing exists
 fewer [] t lt h = absurd (omega (arith, lt))
 fewer (true ∷ bs) zero lt h = not_both refl h
 fewer (false ∷ bs) zero lt h = omega arith

@@ -14,11 +14,11 @@ use Rattle.gb_plan.specs.Refusal.{Conflict, is_before}
 use Rattle.gb_graph.proofs.Edges.{take_grows}
 use Rattle.gb_graph.specs.Cycle.{path_at}
 use Rattle.gb_graph.specs.declared.least.Found.{Found}
-use Rattle.gb_graph.specs.declared.least.Met.{Met}
+use Rattle.gb_graph.specs.declared.least.FoundConflict.{FoundConflict}
 use Rattle.gb_graph.specs.declared.conflicting.Search.{Search}
 use Rattle.gb_graph.specs.declared.places.TaskPlace.{TaskPlace}
 use Rattle.gb_graph.specs.Places.{place_at}
-use Rattle.gb_graph.specs.Conflicts.{IsLeast, IsLeastTask, IsMet, IsMetAt, IsWithin, found_by, lesser, conflict_of}
+use Rattle.gb_graph.specs.Conflicts.{IsLeast, IsLeastTask, IsConflictThere, IsConflictAt, IsWithin, found_by, lesser, conflict_of}
 use Rattle.gb_graph.proofs.Sorted.{texts_weak}
 
 abbrev conflict_order : Conflict → Conflict → Ordering
@@ -127,8 +127,8 @@ same_text : (a b : List ℕ) → a ≡ b → byte_order a b ≡ Equal
 same_text a b e = ap (λ t. byte_order t b) e ∙ equal_of (byte_order b b) (nat_list_cmp_total.antisymm b b)
 
 -- the least of the tasks that conflict at a place makes the least conflict
-pub least_there : (tasks : List Planned) (places : List TaskPlace) (at : TaskPlace) (others : List ℕ) (met : Met) → met.task ≡ at.task → place_at places met.place ≡ at.place
-    → IsLeastTask tasks others met.other → IsLeast (IsMetAt tasks at others) (found_by tasks places (Some met))
+pub least_there : (tasks : List Planned) (places : List TaskPlace) (at : TaskPlace) (others : List ℕ) (met : FoundConflict) → met.task ≡ at.task → place_at places met.place ≡ at.place
+    → IsLeastTask tasks others met.other → IsLeast (IsConflictAt tasks at others) (found_by tasks places (Some met))
 least_there tasks places at others met is_task is_place h = record {
   meets = record { other = met.other; other_in = h.is_in; is_task = ap (path_at tasks) is_task; is_other = refl; is_place = is_place };
   least = λ m there.
@@ -141,7 +141,7 @@ least_there tasks places at others met is_task is_place h = record {
 -- the conflicts of a place whose task comes after the least so far
 pub passed_by : (search : Search) (chains : List (List ℕ)) (tasks : List Planned) (outputs places : List TaskPlace) (i : ℕ) (at : TaskPlace) → i < length places → at ≡ get_or places i at
     → (found : Found) → is_gt (byte_order (path_at tasks at.task) found.task) ≡ true
-    → IsLeast (IsMet search chains tasks outputs (take i places)) (Some found) → IsLeast (IsMet search chains tasks outputs (take (i + 1) places)) (Some found)
+    → IsLeast (IsConflictThere search chains tasks outputs (take i places)) (Some found) → IsLeast (IsConflictThere search chains tasks outputs (take (i + 1) places)) (Some found)
 passed_by search chains tasks outputs places i at lt is found later h = record {
   meets = let m = h.meets in record { at = m.at; at_in = (take_grows places i at m.at lt is).1 (inl m.at_in); other = m.other; met = m.met; is_task = m.is_task; is_other = m.is_other; is_place = m.is_place };
   least = λ conflict m. elim ((take_grows places i at m.at lt is).0 m.at_in) [
@@ -156,20 +156,20 @@ passed_by search chains tasks outputs places i at lt is found later h = record {
     greater_first Equal u e = absurd (false≢true e)
     greater_first Greater u e = refl
 
-pub none_there : (tasks : List Planned) (at : TaskPlace) (others : List ℕ) → others ≡ [] → IsLeast (IsMetAt tasks at others) None
+pub none_there : (tasks : List Planned) (at : TaskPlace) (others : List ℕ) → others ≡ [] → IsLeast (IsConflictAt tasks at others) None
 none_there tasks at others is m there = none_in there.other (subst (λ ks. Contains ks there.other) is there.other_in)
 
 -- ---- By number
 
-pub task_within : (tasks : List Planned) (places : List TaskPlace) (o : Option Met) → MatchOption o (Unit {0}) (IsWithin tasks places) → MatchOption o (Unit {0}) (λ met. met.task < length tasks)
+pub task_within : (tasks : List Planned) (places : List TaskPlace) (o : Option FoundConflict) → MatchOption o (Unit {0}) (IsWithin tasks places) → MatchOption o (Unit {0}) (λ met. met.task < length tasks)
 task_within tasks places None h = tt
 task_within tasks places (Some met) h = h.task
 
 -- the conflict at a place, if there is one
-abbrev pub IsNear : List Planned → List ℕ → ℕ → ℕ → Option Met → Type 0
+abbrev pub IsNear : List Planned → List ℕ → ℕ → ℕ → Option FoundConflict → Type 0
 IsNear tasks others task index o = MatchOption o (others ≡ []) (λ met. (met.task ≡ task) × (met.place ≡ index) × IsLeastTask tasks others met.other)
 
-pub within_near : (tasks : List Planned) (places : List TaskPlace) (others : List ℕ) (task index : ℕ) (o : Option Met) → task < length tasks → index < length places
+pub within_near : (tasks : List Planned) (places : List TaskPlace) (others : List ℕ) (task index : ℕ) (o : Option FoundConflict) → task < length tasks → index < length places
     → ((other : ℕ) → Contains others other → other < length tasks) → IsNear tasks others task index o → MatchOption o (Unit {0}) (IsWithin tasks places)
 within_near tasks places others task index None low in_row known h = tt
 within_near tasks places others task index (Some met) low in_row known h =
@@ -177,14 +177,14 @@ within_near tasks places others task index (Some met) low in_row known h =
     let p = h.1 in
     record { task = omega (arith, t, low); other = known met.other h.2.is_in; place = omega (arith, p, in_row) }
 
-pub least_near : (tasks : List Planned) (places : List TaskPlace) (at : TaskPlace) (others : List ℕ) (task index : ℕ) (o : Option Met) → task ≡ at.task → place_at places index ≡ at.place
-    → IsNear tasks others task index o → IsLeast (IsMetAt tasks at others) (found_by tasks places o)
+pub least_near : (tasks : List Planned) (places : List TaskPlace) (at : TaskPlace) (others : List ℕ) (task index : ℕ) (o : Option FoundConflict) → task ≡ at.task → place_at places index ≡ at.place
+    → IsNear tasks others task index o → IsLeast (IsConflictAt tasks at others) (found_by tasks places o)
 least_near tasks places at others task index None is_task is_place h = none_there tasks at others h
 least_near tasks places at others task index (Some met) is_task is_place h = least_there tasks places at others met (h.0 ∙ is_task) (ap (place_at places) h.1 ∙ is_place) h.2
 
 pub passed_near : (search : Search) (chains : List (List ℕ)) (tasks : List Planned) (outputs places : List TaskPlace) (i : ℕ) (at : TaskPlace) → i < length places → at ≡ get_or places i at
-    → (o : Option Met) → MatchOption o (true ≡ false) (λ met. true ≡ is_gt (byte_order (path_at tasks at.task) (path_at tasks met.task)))
-    → IsLeast (IsMet search chains tasks outputs (take i places)) (found_by tasks places o) → IsLeast (IsMet search chains tasks outputs (take (i + 1) places)) (found_by tasks places o)
+    → (o : Option FoundConflict) → MatchOption o (true ≡ false) (λ met. true ≡ is_gt (byte_order (path_at tasks at.task) (path_at tasks met.task)))
+    → IsLeast (IsConflictThere search chains tasks outputs (take i places)) (found_by tasks places o) → IsLeast (IsConflictThere search chains tasks outputs (take (i + 1) places)) (found_by tasks places o)
 passed_near search chains tasks outputs places i at lt is None later h = absurd (false≢true (sym later))
 passed_near search chains tasks outputs places i at lt is (Some met) later h =
     passed_by search chains tasks outputs places i at lt is (record { task = path_at tasks met.task; other = path_at tasks met.other; place = place_at places met.place }) (sym later) h

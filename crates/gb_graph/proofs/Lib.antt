@@ -17,9 +17,9 @@ pub mod Cycled
 pub mod Cuts
 pub mod RefusalRows
 pub mod Sorted
-pub mod Turns
+pub mod InSequence
 pub mod Lesser
-pub mod Meets
+pub mod MoreConflicts
 pub mod Planned
 pub mod Bridges
 pub mod Numbered

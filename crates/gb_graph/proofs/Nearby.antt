@@ -18,7 +18,7 @@ use Rattle.gb_graph.specs.declared.near.Near.{Near}
 use Rattle.gb_graph.specs.declared.places.TaskPlace.{TaskPlace}
 use Rattle.gb_graph.specs.Places.{place_at}
 use Rattle.gb_graph.specs.Near.{AreNear, AreSameNumbers, AreThinned, HasTwo, IsAmong, IsNear, by_number}
-use Rattle.gb_graph.specs.Conflicts.{IsMetTask, counts}
+use Rattle.gb_graph.specs.Conflicts.{IsConflictTask, counts}
 
 module _ (outputs : List TaskPlace) where
   among_within : (indices more : List ℕ) (near : Near) → ((k : ℕ) → Contains indices k → Contains more k) → IsAmong outputs indices near → IsAmong outputs more near
@@ -172,7 +172,7 @@ module _ (search : Search) (chains : List (List ℕ)) (at : TaskPlace) where
 
   -- all that overlap
   pub met_all : (outputs : List TaskPlace) (numbers : List Near) (tasks : List ℕ) → AreNear outputs at.place numbers
-      → ((task : ℕ) → Contains tasks task ↔ IsMetBy search chains at numbers task) → (task : ℕ) → Contains tasks task ↔ IsMetTask search chains outputs at task
+      → ((task : ℕ) → Contains tasks task ↔ IsMetBy search chains at numbers task) → (task : ℕ) → Contains tasks task ↔ IsConflictTask search chains outputs at task
   met_all outputs numbers tasks near reported task = (
     λ h. let m = (reported task).0 h in
         let n = near.within m.near m.near_in in record {

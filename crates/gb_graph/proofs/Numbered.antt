@@ -21,7 +21,7 @@ use Rattle.gb_graph.proofs.Numbers.{in_of, of_in, both}
 use Rattle.gb_graph.specs.declared.conflicting.Search.TheVariants.{Overlaps, OwnInputs, Undeclared}
 use Rattle.gb_graph.specs.declared.places.TaskPlace.{TaskPlace}
 use Rattle.gb_graph.specs.Places.{AreSamePlaces, with_places, places_from}
-use Rattle.gb_graph.specs.Conflicts.{IsMet, GiveChains}
+use Rattle.gb_graph.specs.Conflicts.{IsConflictThere, GiveChains}
 use Rattle.gb_graph.proofs.Bridges.{At, at_in, in_at, at_get, at_map, of_at_map, parted, around, any_in, some_in, of_row, into_row, into_placed, outputs_mapped}
 use Rattle.gb_graph.proofs.Planned.{one_path}
 
@@ -89,7 +89,7 @@ module _ (plan : Plan) (once : no_repeats (order plan) ≡ true) where
 
     -- ---- Overlaps
 
-    pub to_overlap : (chains : List (List ℕ)) (m : Conflict) → IsMet Overlaps chains plan outputs outputs m → IsOverlap plan m
+    pub to_overlap : (chains : List (List ℕ)) (m : Conflict) → IsConflictThere Overlaps chains plan outputs outputs m → IsOverlap plan m
     to_overlap chains m met =
         let at = met.at in
         let output = met.met.output in
@@ -109,7 +109,7 @@ module _ (plan : Plan) (once : no_repeats (order plan) ≡ true) where
               (ap (λ p. overlaps p output.place) met.is_place ∙ met.met.overlapped));
         }
 
-    pub of_overlap : (chains : List (List ℕ)) (m : Conflict) → IsOverlap plan m → IsMet Overlaps chains plan outputs outputs m
+    pub of_overlap : (chains : List (List ℕ)) (m : Conflict) → IsOverlap plan m → IsConflictThere Overlaps chains plan outputs outputs m
     of_overlap chains m h =
         let some = some_in (λ (o : Path × Place). bytes_eq o.0 m.other && overlaps m.place o.1) (h.prefix ++ h.back) h.overlapped in
         let y = some.0 in
@@ -180,7 +180,7 @@ module _ (plan : Plan) (once : no_repeats (order plan) ≡ true) where
             w.3,
           )
 
-      pub to_own : (chains : List (List ℕ)) (m : Conflict) → IsMet OwnInputs chains plan outputs roots m → IsOwnInput plan m
+      pub to_own : (chains : List (List ℕ)) (m : Conflict) → IsConflictThere OwnInputs chains plan outputs roots m → IsOwnInput plan m
       to_own chains m met =
           let at = met.at in
           let output = met.met.output in
@@ -193,7 +193,7 @@ module _ (plan : Plan) (once : no_repeats (order plan) ≡ true) where
             reads = subst (λ (w : Planned). IsRead plan read.0.task w.task m.place) one read.4;
           }
 
-      pub of_own : (chains : List (List ℕ)) (m : Conflict) → IsOwnInput plan m → IsMet OwnInputs chains plan outputs roots m
+      pub of_own : (chains : List (List ℕ)) (m : Conflict) → IsOwnInput plan m → IsConflictThere OwnInputs chains plan outputs roots m
       of_own chains m h =
           let read = of_read h.task h.task m.place h.reads in
           let z_path : read.2.task.path ≡ h.task.path = ap (λ (t : TaskDeclaration). t.path) read.10 in
@@ -224,7 +224,7 @@ module _ (plan : Plan) (once : no_repeats (order plan) ≡ true) where
               λ h. report.1 (subst (λ (y : Planned). IsAfter plan y.task (path_at plan b)) (sym is) (subst (λ p. IsAfter plan z.task p) (sym path) h)),
             )
 
-        pub to_undeclared : (m : Conflict) → IsMet Undeclared chains plan outputs roots m → IsUndeclared plan m
+        pub to_undeclared : (m : Conflict) → IsConflictThere Undeclared chains plan outputs roots m → IsUndeclared plan m
         to_undeclared m met =
             let at = met.at in
             let output = met.met.output in
@@ -244,7 +244,7 @@ module _ (plan : Plan) (once : no_repeats (order plan) ≡ true) where
               not_after = λ h. differ (bit_in (row chains at.task) output.task) 1 unset ((chain at.task output.task read.0 read.1 read.2 read.3).1 h);
             }
 
-        pub of_undeclared : (m : Conflict) → IsUndeclared plan m → IsMet Undeclared chains plan outputs roots m
+        pub of_undeclared : (m : Conflict) → IsUndeclared plan m → IsConflictThere Undeclared chains plan outputs roots m
         of_undeclared m h =
             let read = of_read h.reader h.writer m.place h.reads in
             let z_path : read.2.task.path ≡ h.reader.path = ap (λ (t : TaskDeclaration). t.path) read.10 in

@@ -6,7 +6,7 @@ use Rattle.std.proofs.lemmas.Bool.{cases_eq, cases_Bool}
 use Rattle.std.proofs.lemmas.List.{get_or_default, get_or-set_same, get_or-set_other, length-append}
 use Rattle.std.proofs.lemmas.List.Elements.{Contains-append_left, Contains-push, Contains-push_cases}
 use Rattle.gb_graph.specs.Order.{row}
-use Rattle.gb_graph.specs.Settled.{exists_in, missing}
+use Rattle.gb_graph.specs.Settled.{is_marked, missing}
 use Rattle.gb_graph.specs.Reach.{Reaches, start, step, IsFirstStart, IsClosed, IsMarked, IsSpread, Spreads}
 use Rattle.gb_graph.proofs.Edges.{take_grows}
 use Rattle.gb_graph.proofs.Keeping.{mark_kept, mark_other, not_both}
@@ -36,10 +36,10 @@ module _ (exists exists' : List Bool) (words words' fresh fresh' tasks : List �
   grows_back : (k : ℕ) → Contains (take i tasks) k ⊎ (t ≡ k) → Contains (take (i + 1) tasks) k
   grows_back k = (take_grows tasks i t k lt (get_or_default tasks i 0 t lt)).1
 
-  pub marked_old : exists_in exists' t ≡ true → IsMarked exists exists' words words' fresh fresh' (take (i + 1) tasks) word
+  pub marked_old : is_marked exists' t ≡ true → IsMarked exists exists' words words' fresh fresh' (take (i + 1) tasks) word
   marked_old is = record {
     stays = m.stays;
-    marks = λ k c. elim (grows_to k c) [ inl old ↦ m.marks k old | inr e ↦ ap (exists_in exists') (sym e) ∙ is ];
+    marks = λ k c. elim (grows_to k c) [ inl old ↦ m.marks k old | inr e ↦ ap (is_marked exists') (sym e) ∙ is ];
     only = λ k h. elim (m.only k h) [ inl old ↦ inl old | inr c ↦ inr (grows_back k (inl c)) ];
     same = m.same;
     new = m.new;
@@ -48,19 +48,19 @@ module _ (exists exists' : List Bool) (words words' fresh fresh' tasks : List �
     count = m.count;
   }
 
-  pub marked_new : t < length exists' → t < length words' → exists_in exists' t ≡ false
+  pub marked_new : t < length exists' → t < length words' → is_marked exists' t ≡ false
       → IsMarked exists (set exists' t true) words (set words' t word) fresh (fresh' ++ t ∷ []) (take (i + 1) tasks) word
   marked_new in_exists in_words lacks =
-      let here : exists_in (set exists' t true) t ≡ true = get_or-set_same exists' t true false in_exists in
+      let here : is_marked (set exists' t true) t ≡ true = get_or-set_same exists' t true false in_exists in
       record {
         stays = λ k h. mark_kept exists' t k in_exists (m.stays k h);
-        marks = λ k c. elim (grows_to k c) [ inl old ↦ mark_kept exists' t k in_exists (m.marks k old) | inr e ↦ ap (exists_in (set exists' t true)) (sym e) ∙ here ];
+        marks = λ k c. elim (grows_to k c) [ inl old ↦ mark_kept exists' t k in_exists (m.marks k old) | inr e ↦ ap (is_marked (set exists' t true)) (sym e) ∙ here ];
         only = λ k h. elim (cases_eq k t) [
           | inl e ↦ inr (grows_back k (inr (sym e)))
           | inr separate ↦ elim (m.only k (sym (mark_other exists' t k separate) ∙ h)) [ inl old ↦ inl old | inr c ↦ inr (grows_back k (inl c)) ]
         ];
         same = λ k h. elim (cases_eq k t) [
-          | inl e ↦ not_both (m.stays k h) (ap (exists_in exists') e ∙ lacks)
+          | inl e ↦ not_both (m.stays k h) (ap (is_marked exists') e ∙ lacks)
           | inr separate ↦ get_or-set_other words' t k word 0 separate ∙ m.same k h
         ];
         new = λ k e h. elim (cases_eq k t) [
@@ -78,7 +78,7 @@ module _ (exists exists' : List Bool) (words words' fresh fresh' tasks : List �
             omega (arith, m.count, less, length-append fresh' (t ∷ []));
       }
     where
-      counts : (bs : List Bool) (j : ℕ) → j < length bs → exists_in bs j ≡ false → missing (set bs j true) + 1 ≡ missing bs
+      counts : (bs : List Bool) (j : ℕ) → j < length bs → is_marked bs j ≡ false → missing (set bs j true) + 1 ≡ missing bs
       counts [] j l e = absurd (omega (arith, l))
       counts (true ∷ bs) zero l e = not_both refl e
       counts (false ∷ bs) zero l e = refl
@@ -96,7 +96,7 @@ module _ (table : List (List ℕ)) (starts : List ℕ) (word : ℕ) (exists : Li
     only = λ k h. elim (m.only k h) [ inl old ↦ inl old | inr c ↦ inr (start c) ];
     same = m.same;
     new = λ k e h. (m.new k e h).0;
-    goes = λ k task h c. elim (cases_Bool (exists_in exists k)) [
+    goes = λ k task h c. elim (cases_Bool (is_marked exists k)) [
       | inl old ↦ inl (m.stays task (closed k task old c))
       | inr lacks ↦ inr (m.new k lacks h).1
     ];
@@ -114,11 +114,11 @@ module _ (table : List (List ℕ)) (starts : List ℕ) (word : ℕ) (exists : Li
         begun = λ k c. m.stays k (s.begun k c);
         only = λ k h. elim (m.only k h) [ inl old ↦ s.only k old | inr c ↦ inr (along k c) ];
         same = λ k h. m.same k (s.stays k h) ∙ s.same k h;
-        new = λ k e h. elim (cases_Bool (exists_in exists₁ k)) [
+        new = λ k e h. elim (cases_Bool (is_marked exists₁ k)) [
           | inl old ↦ m.same k old ∙ s.new k e old
           | inr lacks ↦ (m.new k lacks h).0
         ];
-        goes = λ k task h c. elim (cases_Bool (exists_in exists₁ k)) [
+        goes = λ k task h c. elim (cases_Bool (is_marked exists₁ k)) [
           | inl old ↦ elim (s.goes k task old c) [
             | inl g ↦ inl (m.stays task g)
             | inr waits ↦ elim (Contains-push_cases fresh₁ t k (subst (λ fs. Contains fs k) popped waits)) [
@@ -151,7 +151,7 @@ module _ (table : List (List ℕ)) (starts : List ℕ) (word : ℕ) (exists : Li
         | inr f ↦ let lt = (subst (λ fs. Contains fs k) none f).1 in absurd (omega (arith, lt))
       ]
 
-      whole : (k : ℕ) → Reaches table starts k → exists_in exists' k ≡ true
+      whole : (k : ℕ) → Reaches table starts k → is_marked exists' k ≡ true
       whole k (start c) = s.begun k c
       whole k (step {from = from} r c) = closed from k (whole from r) c
 
@@ -160,8 +160,8 @@ module _ (table : List (List ℕ)) (starts : List ℕ) (word : ℕ) (exists : Li
 -- the marks of the first of the starts
 pub record AreFirst (table starts : List (List ℕ)) (count : ℕ) (exists : List Bool) (words : List ℕ) : Type 0 where
   pub closed : IsClosed table exists
-  pub whole : (index task : ℕ) → index < count → Reaches table (row starts index) task → exists_in exists task ≡ true
-  pub first : (task : ℕ) → exists_in exists task ≡ true → (get_or words task 0 < count) × IsFirstStart table starts task (get_or words task 0)
+  pub whole : (index task : ℕ) → index < count → Reaches table (row starts index) task → is_marked exists task ≡ true
+  pub first : (task : ℕ) → is_marked exists task ≡ true → (get_or words task 0 < count) × IsFirstStart table starts task (get_or words task 0)
 
 pub first_more : (table starts : List (List ℕ)) (i : ℕ) → i < length starts → (exists exists' : List Bool) (words words' : List ℕ) → AreFirst table starts i exists words
     → (these : List ℕ) → these ≡ row starts i → IsSpread table these i exists exists' words words' → AreFirst table starts (i + 1) exists' words'
@@ -171,7 +171,7 @@ first_more table starts i lt exists exists' words words' old these is s = record
     | inl e ↦ s.whole task (subst (λ ts. Reaches table ts task) (ap (row starts) e ∙ sym is) r)
     | inr separate ↦ s.stays task (old.whole index task (omega (arith, low, separate)) r)
   ];
-  first = λ task h. elim (cases_Bool (exists_in exists task)) [
+  first = λ task h. elim (cases_Bool (is_marked exists task)) [
     | inl existed ↦
         let same : get_or words' task 0 ≡ get_or words task 0 = s.same task existed in
         let f = old.first task existed in
@@ -204,7 +204,7 @@ marked_as exists exists₁ exists₂ words words₁ words₂ fresh fresh₁ fres
     (subst (λ v. IsMarked exists exists₁ words words₁ fresh v tasks₂ word) (sym r)
     (subst (λ v. IsMarked exists exists₁ words words₁ fresh fresh₁ v word) (sym s) m)))
 
-pub first_none : (table starts : List (List ℕ)) (exists : List Bool) (words : List ℕ) → ((k : ℕ) → exists_in exists k ≡ false) → AreFirst table starts 0 exists words
+pub first_none : (table starts : List (List ℕ)) (exists : List Bool) (words : List ℕ) → ((k : ℕ) → is_marked exists k ≡ false) → AreFirst table starts 0 exists words
 first_none table starts exists words none = record {
   closed = λ k task h c. not_both h (none k);
   whole = λ index task low r. absurd (omega (arith, low));
@@ -224,7 +224,7 @@ pub reached_known : (table : List (List ℕ)) (starts : List ℕ) (n : ℕ) → 
 reached_known table starts n tasks known k (start c) = known k c
 reached_known table starts n tasks known k (step {from = from} r c) = tasks from k c
 
-pub none_exist : (n k : ℕ) → exists_in (replicate n false) k ≡ false
+pub none_exist : (n k : ℕ) → is_marked (replicate n false) k ≡ false
 none_exist zero k = refl
 none_exist (suc n) zero = refl
 none_exist (suc n) (suc k) = none_exist n k

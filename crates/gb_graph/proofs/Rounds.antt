@@ -15,7 +15,7 @@ use Rattle.gb_plan.specs.declared.plan.Planned.{Planned}
 use Rattle.gb_plan.specs.Task.{Path}
 use Rattle.gb_plan.proofs.Tests.{not_true}
 use Rattle.gb_plan.proofs.Same.{In}
-use Rattle.gb_graph.specs.Settled.{exists_in}
+use Rattle.gb_graph.specs.Settled.{is_marked}
 use Rattle.gb_graph.specs.Ranked.{AreDistinct}
 use Rattle.gb_graph.specs.Cycle.{IsLeastNumber, IsNextNumber, IsRound, IsTrail, LeadsTo, is_there, goes, path_at}
 use Rattle.gb_graph.proofs.Edges.{take_grows}
@@ -49,10 +49,10 @@ module _ (tasks : List Planned) (marks : List Bool) (numbers : List ℕ) (i t : 
   grows_back : (k : ℕ) → Contains (take i numbers) k ⊎ (t ≡ k) → Contains (take (i + 1) numbers) k
   grows_back k = (take_grows numbers i t k lt is).1
 
-  pub none_more : ((k : ℕ) → Contains (take i numbers) k → exists_in marks k ≡ false) → exists_in marks t ≡ false → (k : ℕ) → Contains (take (i + 1) numbers) k → exists_in marks k ≡ false
-  none_more none shut k c = elim (grows_to k c) [ inl old ↦ none k old | inr e ↦ ap (exists_in marks) (sym e) ∙ shut ]
+  pub none_more : ((k : ℕ) → Contains (take i numbers) k → is_marked marks k ≡ false) → is_marked marks t ≡ false → (k : ℕ) → Contains (take (i + 1) numbers) k → is_marked marks k ≡ false
+  none_more none shut k c = elim (grows_to k c) [ inl old ↦ none k old | inr e ↦ ap (is_marked marks) (sym e) ∙ shut ]
 
-  pub first_least : ((k : ℕ) → Contains (take i numbers) k → exists_in marks k ≡ false) → exists_in marks t ≡ true → IsLeastNumber tasks (take (i + 1) numbers) marks t
+  pub first_least : ((k : ℕ) → Contains (take i numbers) k → is_marked marks k ≡ false) → is_marked marks t ≡ true → IsLeastNumber tasks (take (i + 1) numbers) marks t
   first_least none marked = record {
     is_in = grows_back t (inr refl);
     marked = marked;
@@ -62,7 +62,7 @@ module _ (tasks : List Planned) (marks : List Bool) (numbers : List ℕ) (i t : 
     ];
   }
 
-  pub new_least : (m : ℕ) → IsLeastNumber tasks (take i numbers) marks m → exists_in marks t ≡ true → before (path_at tasks t) (path_at tasks m) ≡ true → IsLeastNumber tasks (take (i + 1) numbers) marks t
+  pub new_least : (m : ℕ) → IsLeastNumber tasks (take i numbers) marks m → is_marked marks t ≡ true → before (path_at tasks t) (path_at tasks m) ≡ true → IsLeastNumber tasks (take (i + 1) numbers) marks t
   new_least m old marked lower = record {
     is_in = grows_back t (inr refl);
     marked = marked;
@@ -72,13 +72,13 @@ module _ (tasks : List Planned) (marks : List Bool) (numbers : List ℕ) (i t : 
     ];
   }
 
-  pub old_least : (m : ℕ) → IsLeastNumber tasks (take i numbers) marks m → (exists_in marks t ≡ true → before (path_at tasks t) (path_at tasks m) ≡ false) → IsLeastNumber tasks (take (i + 1) numbers) marks m
+  pub old_least : (m : ℕ) → IsLeastNumber tasks (take i numbers) marks m → (is_marked marks t ≡ true → before (path_at tasks t) (path_at tasks m) ≡ false) → IsLeastNumber tasks (take (i + 1) numbers) marks m
   old_least m old not_lower = record {
     is_in = grows_back m (inl old.is_in);
     marked = old.marked;
     least = λ k c h. elim (grows_to k c) [
       | inl was ↦ old.least k was h
-      | inr e ↦ ap (λ v. before (path_at tasks v) (path_at tasks m)) (sym e) ∙ not_lower (ap (exists_in marks) e ∙ h)
+      | inr e ↦ ap (λ v. before (path_at tasks v) (path_at tasks m)) (sym e) ∙ not_lower (ap (is_marked marks) e ∙ h)
     ];
   }
 
@@ -149,8 +149,8 @@ round_is tasks after marks numbers start back first trail prefix round end most 
 -- ---- In options
 
 pub least_or : (tasks : List Planned) (numbers : List ℕ) (marks : List Bool) (found : Option ℕ)
-    → MatchOption found ((k : ℕ) → Contains numbers k → exists_in marks k ≡ false) (λ k. IsLeastNumber tasks numbers marks k)
-    → (some : ℕ) → Contains numbers some → exists_in marks some ≡ true → (v : ℕ) → v ≡ unwrap_or found 0 → IsLeastNumber tasks numbers marks v
+    → MatchOption found ((k : ℕ) → Contains numbers k → is_marked marks k ≡ false) (λ k. IsLeastNumber tasks numbers marks k)
+    → (some : ℕ) → Contains numbers some → is_marked marks some ≡ true → (v : ℕ) → v ≡ unwrap_or found 0 → IsLeastNumber tasks numbers marks v
 least_or tasks numbers marks None none some c h v is = not_both h (none some c)
 least_or tasks numbers marks (Some k) least some c h v is = subst (IsLeastNumber tasks numbers marks) (sym is) least
 
@@ -159,13 +159,13 @@ IsWithin tasks found = MatchOption found (Unit {0}) (λ k. k < length tasks)
 
 module _ (tasks : List Planned) (marks : List Bool) (numbers : List ℕ) (i t : ℕ) (lt : i < length numbers) (is : t ≡ get_or numbers i t) (known : t < length tasks) where
   abbrev SoFar : List ℕ → Option ℕ → Type 0
-  SoFar ks found = MatchOption found ((k : ℕ) → Contains ks k → exists_in marks k ≡ false) (λ k. IsLeastNumber tasks ks marks k)
+  SoFar ks found = MatchOption found ((k : ℕ) → Contains ks k → is_marked marks k ≡ false) (λ k. IsLeastNumber tasks ks marks k)
 
   abbrev IsLesser : Option ℕ → ℕ → Type 0
   IsLesser found result = MatchOption found (result ≡ t)
       (λ other. ((result ≡ t) × (before (path_at tasks t) (path_at tasks other) ≡ true)) ⊎ ((result ≡ other) × (before (path_at tasks t) (path_at tasks other) ≡ false)))
 
-  pub so_far_marked : (found : Option ℕ) (result : ℕ) → SoFar (take i numbers) found → IsWithin tasks found → exists_in marks t ≡ true → IsLesser found result
+  pub so_far_marked : (found : Option ℕ) (result : ℕ) → SoFar (take i numbers) found → IsWithin tasks found → is_marked marks t ≡ true → IsLesser found result
       → IsLeastNumber tasks (take (i + 1) numbers) marks result × (result < length tasks)
   so_far_marked None result none within marked same =
       (subst (IsLeastNumber tasks (take (i + 1) numbers) marks) (sym same) (first_least tasks marks numbers i t lt is none marked), omega (arith, known, same))
@@ -174,14 +174,14 @@ module _ (tasks : List Planned) (marks : List Bool) (numbers : List ℕ) (i t : 
   so_far_marked (Some m) result least within marked (inr (same, higher)) =
       (subst (IsLeastNumber tasks (take (i + 1) numbers) marks) (sym same) (old_least tasks marks numbers i t lt is m least (λ _. higher)), omega (arith, within, same))
 
-  pub so_far_shut : (found : Option ℕ) → SoFar (take i numbers) found → exists_in marks t ≡ false → SoFar (take (i + 1) numbers) found
+  pub so_far_shut : (found : Option ℕ) → SoFar (take i numbers) found → is_marked marks t ≡ false → SoFar (take (i + 1) numbers) found
   so_far_shut None none shut = none_more tasks marks numbers i t lt is none shut
   so_far_shut (Some m) least shut = old_least tasks marks numbers i t lt is m least (λ h. not_both h shut)
 
 -- ---- One step of a trail
 
-pub met_grows : (met : List Bool) (trail : List ℕ) (at : ℕ) → at < length met → ((k : ℕ) → (exists_in met k ≡ true) ↔ Contains trail k)
-    → (k : ℕ) → (exists_in (set met at true) k ≡ true) ↔ Contains (trail ++ at ∷ []) k
+pub met_grows : (met : List Bool) (trail : List ℕ) (at : ℕ) → at < length met → ((k : ℕ) → (is_marked met k ≡ true) ↔ Contains trail k)
+    → (k : ℕ) → (is_marked (set met at true) k ≡ true) ↔ Contains (trail ++ at ∷ []) k
 met_grows met trail at lt reported k = (
   λ h. elim (cases_eq k at) [
     | inl e ↦ subst (Contains (trail ++ at ∷ [])) (sym e) (Contains-push trail at)
@@ -189,11 +189,11 @@ met_grows met trail at lt reported k = (
   ],
   λ c. elim (Contains-push_cases trail at k c) [
     | inl old ↦ mark_kept met at k lt ((reported k).1 old)
-    | inr e ↦ ap (exists_in (set met at true)) (sym e) ∙ get_or-set_same met at true false lt
+    | inr e ↦ ap (is_marked (set met at true)) (sym e) ∙ get_or-set_same met at true false lt
   ],
 )
 
-pub exists_within : (marks : List Bool) (k : ℕ) → exists_in marks k ≡ true → k < length marks
+pub exists_within : (marks : List Bool) (k : ℕ) → is_marked marks k ≡ true → k < length marks
 exists_within [] k h = not_true h
 exists_within (b ∷ marks) zero h = omega arith
 exists_within (b ∷ marks) (suc k) h = let lt = exists_within marks k h in omega (arith, lt)

@@ -14,7 +14,7 @@ use Rattle.gb_graph.proofs.Numbers.{in_of, of_in}
 use Rattle.gb_graph.specs.declared.conflicting.Search.{Search}
 use Rattle.gb_graph.specs.declared.conflicting.Search.TheVariants.{Overlaps, OwnInputs, Undeclared}
 use Rattle.gb_graph.specs.declared.places.TaskPlace.{TaskPlace}
-use Rattle.gb_graph.specs.Conflicts.{IsMet, counts}
+use Rattle.gb_graph.specs.Conflicts.{IsConflictThere, counts}
 use Rattle.gb_graph.specs.Near.{by_number}
 use Rattle.gb_graph.specs.Places.{AreSamePlaces, IsRising, IsSame, IsThinned, OccursTwice, is_before, place_at}
 use Rattle.gb_graph.proofs.Numbered.{differ_so}
@@ -189,7 +189,7 @@ pair_of OwnInputs chains whole thinned t outputs kept u at output c d counted = 
 pair_of Undeclared chains whole thinned t outputs kept u at output c d counted = pair_by_task Undeclared chains (λ at output p o e f. (λ i. not (e i == f i) && not (bit_in (row chains (e i)) (f i) == 1))) whole thinned t outputs kept u at output c d counted
 
 module _ (search : Search) (chains : List (List ℕ)) (tasks : List Planned) (outputs kept : List TaskPlace) (u : IsThinned outputs kept) (whole thinned : List TaskPlace) (t : IsThinned whole thinned) where
-  pub met_thinned : (m : Conflict) → IsMet search chains tasks outputs whole m → IsMet search chains tasks kept thinned m
+  pub met_thinned : (m : Conflict) → IsConflictThere search chains tasks outputs whole m → IsConflictThere search chains tasks kept thinned m
   met_thinned m met =
       let pair = pair_of search chains whole thinned t outputs kept u met.at met.met.output met.at_in met.met.output_in met.met.counted in
       let p = pair.place in
@@ -210,7 +210,7 @@ module _ (search : Search) (chains : List (List ℕ)) (tasks : List Planned) (ou
         is_place = met.is_place ∙ sym p.same.1;
       }
 
-  pub met_whole : (m : Conflict) → IsMet search chains tasks kept thinned m → IsMet search chains tasks outputs whole m
+  pub met_whole : (m : Conflict) → IsConflictThere search chains tasks kept thinned m → IsConflictThere search chains tasks outputs whole m
   met_whole m met = record {
     at = met.at;
     at_in = t.within met.at met.at_in;

@@ -12,7 +12,7 @@ use Rattle.gb_graph.specs.Order.{row, rows}
 use Rattle.gb_graph.specs.Chains.{bit_in}
 use Rattle.gb_graph.specs.Cycle.{path_at}
 use Rattle.gb_graph.specs.declared.least.Found.{Found}
-use Rattle.gb_graph.specs.declared.least.Met.{Met}
+use Rattle.gb_graph.specs.declared.least.FoundConflict.{FoundConflict}
 use Rattle.gb_graph.specs.declared.conflicting.Search.{Search}
 use Rattle.gb_graph.specs.declared.conflicting.Search.TheVariants.{Overlaps, OwnInputs, Undeclared}
 use Rattle.gb_graph.specs.declared.near.Near.{Near}
@@ -37,7 +37,7 @@ counts Undeclared chains at output =
 
 module _ (search : Search) (chains : List (List ℕ)) where
   -- an output of the task counts, and overlaps the place
-  pub record IsMetTask (outputs : List TaskPlace) (at : TaskPlace) (task : ℕ) : Type 0 where
+  pub record IsConflictTask (outputs : List TaskPlace) (at : TaskPlace) (task : ℕ) : Type 0 where
     pub output : TaskPlace
     pub output_in : Contains outputs output
     pub is_task : output.task ≡ task
@@ -45,17 +45,18 @@ module _ (search : Search) (chains : List (List ℕ)) where
     pub overlapped : overlaps at.place output.place ≡ true
 
   -- the task of one of the places conflicts with the task of an output there
-  pub record IsMet (tasks : Plan) (outputs places : List TaskPlace) (conflict : Conflict) : Type 0 where
+  pub record IsConflictThere (tasks : Plan) (outputs places : List TaskPlace) (conflict : Conflict)
+      : Type 0 where
     pub at : TaskPlace
     pub at_in : Contains places at
     pub other : ℕ
-    pub met : IsMetTask outputs at other
+    pub met : IsConflictTask outputs at other
     pub is_task : conflict.task ≡ path_at tasks at.task
     pub is_other : conflict.other ≡ path_at tasks other
     pub is_place : conflict.place ≡ at.place
 
 -- a task at a place of its own conflicts with one of these tasks
-pub record IsMetAt (tasks : Plan) (at : TaskPlace) (others : List ℕ) (conflict : Conflict) : Type 0 where
+pub record IsConflictAt (tasks : Plan) (at : TaskPlace) (others : List ℕ) (conflict : Conflict) : Type 0 where
   pub other : ℕ
   pub other_in : Contains others other
   pub is_task : conflict.task ≡ path_at tasks at.task
@@ -67,7 +68,7 @@ abbrev pub conflict_of : Found → Conflict
 conflict_of found = record { task = found.task; other = found.other; place = found.place }
 
 -- the conflict of these numbers
-abbrev pub conflict_by : Plan → List TaskPlace → Met → Conflict
+abbrev pub conflict_by : Plan → List TaskPlace → FoundConflict → Conflict
 conflict_by tasks places met = record {
   task = path_at tasks met.task;
   other = path_at tasks met.other;
@@ -75,7 +76,7 @@ conflict_by tasks places met = record {
 }
 
 -- the result by number, and as it is reported
-abbrev pub found_by : Plan → List TaskPlace → Option Met → Option Found
+abbrev pub found_by : Plan → List TaskPlace → Option FoundConflict → Option Found
 found_by tasks places None = None
 found_by tasks places (Some met) = Some (record {
   task = path_at tasks met.task;
@@ -84,7 +85,7 @@ found_by tasks places (Some met) = Some (record {
 })
 
 -- the numbers are those of tasks and of a place
-pub record IsWithin (tasks : Plan) (places : List TaskPlace) (met : Met) : Type 0 where
+pub record IsWithin (tasks : Plan) (places : List TaskPlace) (met : FoundConflict) : Type 0 where
   pub task : met.task < length tasks
   pub other : met.other < length tasks
   pub place : met.place < length places
@@ -104,14 +105,14 @@ lesser (Some found) (Some other) =
 
 -- the least of these conflicts, if there is any
 abbrev pub IsLeast : (Conflict → Type 0) → Option Found → Type 0
-IsLeast Meets None = (conflict : Conflict) → ¬ Meets conflict
-IsLeast Meets (Some found) = IsLeastConflict Meets (conflict_of found)
+IsLeast IsConflict None = (conflict : Conflict) → ¬ IsConflict conflict
+IsLeast IsConflict (Some found) = IsLeastConflict IsConflict (conflict_of found)
 
 -- the conflicts of a plan that are searched for
-abbrev pub Meets : Plan → Search → Conflict → Type 0
-Meets plan Overlaps conflict = IsOverlap plan conflict
-Meets plan OwnInputs conflict = IsOwnInput plan conflict
-Meets plan Undeclared conflict = IsUndeclared plan conflict
+abbrev pub IsConflict : Plan → Search → Conflict → Type 0
+IsConflict plan Overlaps conflict = IsOverlap plan conflict
+IsConflict plan OwnInputs conflict = IsOwnInput plan conflict
+IsConflict plan Undeclared conflict = IsUndeclared plan conflict
 
 -- the chains of these tasks, their outputs in order, and their roots, thinned
 pub record AreTables (tasks : List Planned) (tables : Tables) : Type 0 where

@@ -6,7 +6,7 @@ use Rattle.gb_plan.specs.declared.plan.Planned.{Planned}
 use Rattle.gb_plan.specs.Task.{Path}
 use Rattle.gb_plan.specs.Graph.{order}
 use Rattle.gb_graph.specs.Order.{row}
-use Rattle.gb_graph.specs.Settled.{exists_in}
+use Rattle.gb_graph.specs.Settled.{is_marked}
 use Rattle.gb_graph.specs.Ranked.{AreDistinct}
 
 -- the path of the task of this number
@@ -17,8 +17,8 @@ path_at tasks number = slice_index_or (order tasks) number []
 pub record IsLeastNumber (tasks : List Planned) (numbers : List ℕ) (marks : List Bool)
     (number : ℕ) : Type 0 where
   pub is_in : Contains numbers number
-  pub marked : exists_in marks number ≡ true
-  pub least : (other : ℕ) → Contains numbers other → exists_in marks other ≡ true
+  pub marked : is_marked marks number ≡ true
+  pub least : (other : ℕ) → Contains numbers other → is_marked marks other ≡ true
       → is_lt (byte_order (path_at tasks other) (path_at tasks number)) ≡ false
 
 -- the second is the least marked number that the first comes after
@@ -37,7 +37,7 @@ pub record IsTrail (tasks : List Planned) (after : List (List ℕ)) (marks : Lis
   pub leads : LeadsTo (IsNextNumber tasks after marks) start trail back
   pub separate : AreDistinct trail
   pub comes_back : Contains trail back
-  pub marked : (number : ℕ) → Contains trail number → exists_in marks number ≡ true
+  pub marked : (number : ℕ) → Contains trail number → is_marked marks number ≡ true
 
 -- The cycle that the trail from the least of these leads into, starting with the least number of the
 -- cycle.

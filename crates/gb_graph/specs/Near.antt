@@ -2,7 +2,7 @@
 use Rattle.std.specs.Prelude.{ℕ, ◌≡◌, ◌≢◌, ◌<◌, ◌⊎◌, ◌↔◌, true, List, length, get_or, Contains, MatchOption}
 use Rattle.gb_core.specs.Place.{overlaps}
 use Rattle.gb_folder.specs.Files.{Place}
-use Rattle.gb_graph.specs.declared.last.Last.{Last}
+use Rattle.gb_graph.specs.declared.last_overlap.Last.{Last}
 use Rattle.gb_graph.specs.declared.near.Near.{Near}
 use Rattle.gb_graph.specs.declared.places.TaskPlace.{TaskPlace}
 use Rattle.gb_graph.specs.Places.{place_at}

@@ -3,14 +3,14 @@ use Rattle.std.specs.Prelude.{ℕ, ◌≡◌, ◌<◌, ◌≤◌, ◌+◌, if◌
 use Rattle.std.specs.Prelude.{Contains, Bool, true, false, slice_index_or, slice_set}
 use Rattle.gb_graph.specs.Order.{row}
 
-abbrev pub exists_in : List Bool → ℕ → Bool
-exists_in exists task = slice_index_or exists task false
+abbrev pub is_marked : List Bool → ℕ → Bool
+is_marked exists task = slice_index_or exists task false
 
 -- A task is added where it belongs: to the ready ones if all tasks that it comes after are placed, otherwise
 -- to the waiting list of a task that is not placed.
 pub record IsPutReady (after : List (List ℕ)) (exists : List Bool) (waiting waiting' : List (List ℕ))
     (ready ready' : ℕ → Bool) (task : ℕ) : Type 0 where
-  pub all_exist : (before : ℕ) → Contains (row after task) before → exists_in exists before ≡ true
+  pub all_exist : (before : ℕ) → Contains (row after task) before → is_marked exists before ≡ true
   pub same : waiting' ≡ waiting
   pub put : ready' task ≡ true
   pub kept : (other : ℕ) → ready other ≡ true → ready' other ≡ true
@@ -20,7 +20,7 @@ pub record IsPutWaiting (after : List (List ℕ)) (exists : List Bool) (waiting 
     (ready ready' : ℕ → Bool) (task : ℕ) : Type 0 where
   pub before : ℕ
   pub comes_after : Contains (row after task) before
-  pub missing : exists_in exists before ≡ false
+  pub missing : is_marked exists before ≡ false
   pub put : waiting' ≡ slice_set waiting before (row waiting before ++ task ∷ [])
   pub same : (other : ℕ) → ready' other ≡ ready other
 
@@ -35,21 +35,21 @@ pub record Keeps (after : List (List ℕ)) (exists : List Bool) (waiting : List 
     (order : List ℕ) (loose : ℕ → Type 0) : Type 0 where
   pub marks : length exists ≡ length after
   pub places : length waiting ≡ length after
-  pub marked : (task : ℕ) → Contains order task → exists_in exists task ≡ true
-  pub existing : (task : ℕ) → exists_in exists task ≡ true → Contains order task
-  pub closed : (task before : ℕ) → exists_in exists task ≡ true → Contains (row after task) before
-      → exists_in exists before ≡ true
+  pub marked : (task : ℕ) → Contains order task → is_marked exists task ≡ true
+  pub existing : (task : ℕ) → is_marked exists task ≡ true → Contains order task
+  pub closed : (task before : ℕ) → is_marked exists task ≡ true → Contains (row after task) before
+      → is_marked exists before ≡ true
   pub ready_known : (task : ℕ) → ready task ≡ true → task < length after
-  pub ready_waits : (task : ℕ) → ready task ≡ true → exists_in exists task ≡ false
+  pub ready_waits : (task : ℕ) → ready task ≡ true → is_marked exists task ≡ false
   pub ready_after : (task before : ℕ) → ready task ≡ true → Contains (row after task) before
-      → exists_in exists before ≡ true
+      → is_marked exists before ≡ true
   pub waits_known : (before task : ℕ) → Contains (row waiting before) task → task < length after
   pub waits_after : (before task : ℕ) → Contains (row waiting before) task → Contains (row after task) before
   pub loose_known : (task : ℕ) → loose task → task < length after
-  pub loose_waits : (task : ℕ) → loose task → exists_in exists task ≡ false
-  pub somewhere : (task : ℕ) → task < length after → exists_in exists task ≡ false
+  pub loose_waits : (task : ℕ) → loose task → is_marked exists task ≡ false
+  pub somewhere : (task : ℕ) → task < length after → is_marked exists task ≡ false
       → loose task ⊎ (ready task ≡ true)
-      ⊎ ((before : ℕ) × Contains (row after task) before × (exists_in exists before ≡ false)
+      ⊎ ((before : ℕ) × Contains (row after task) before × (is_marked exists before ≡ false)
       × Contains (row waiting before) task)
 
 -- u is in the list at i or later

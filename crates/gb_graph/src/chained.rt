@@ -10,7 +10,7 @@ use gb_plan::plan::Planned;
 use std::alloc::{AllocError, Global};
 
 /// The numbers of tasks that come only after tasks of lesser numbers; these numbers are in order.
-fn in_turn(alloc: Global, after: &[Vec<usize>]) -> Result<Vec<usize>, AllocError>
+fn in_number_order(alloc: Global, after: &[Vec<usize>]) -> Result<Vec<usize>, AllocError>
     requires { (task before : ℕ) → Contains (row (rows after.now) task) before → before < task }
     ensures order { IfOk result (λ numbers. InOrder (rows after.now) numbers.items) }
     ensures all { IfOk result (λ numbers. (task : ℕ) → task < length after.now
@@ -30,6 +30,6 @@ pub fn chains_in(alloc: Global, tasks: &[Planned]) -> Result<Vec<Vec<u64>>, Allo
     ensures { IfOk result (λ chains. GiveChains tasks.now (rows chains.items)) }
 {
     let after = after_of(alloc, tasks)?;
-    let order = in_turn(alloc, after.as_slice())?;
+    let order = in_number_order(alloc, after.as_slice())?;
     chains_of(alloc, after.as_slice(), order.as_slice())
 }

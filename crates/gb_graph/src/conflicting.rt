@@ -3,7 +3,7 @@ ghost use Rattle.std.specs.Prelude.{◌≡◌, ◌↔◌, ℕ, List, Contains, I
 ghost use Rattle.gb_graph.specs.Order.{row, rows};
 ghost use Rattle.gb_graph.specs.Chains.{bit_in};
 ghost use Rattle.gb_graph.specs.Near.{AreNear};
-ghost use Rattle.gb_graph.specs.Conflicts.{IsMetTask, counts};
+ghost use Rattle.gb_graph.specs.Conflicts.{IsConflictTask, counts};
 ghost use Rattle.gb_graph.specs.declared.places.TaskPlace.{TaskPlace};
 
 use crate::near::Near;
@@ -48,7 +48,7 @@ fn counts(search: Search, chains: &[Vec<u64>], at: &TaskPlace, output: Near) -> 
 }
 
 /// The tasks with outputs that conflict with a place, of the outputs that overlap it.
-pub fn met_at(
+pub fn conflicts_at(
     alloc: Global,
     search: Search,
     chains: &[Vec<u64>],
@@ -56,7 +56,8 @@ pub fn met_at(
     at: &TaskPlace,
 ) -> Result<Vec<usize>, AllocError>
     ensures { IfOk result (λ tasks. (outputs : List TaskPlace) → AreNear outputs at.now.place near.now
-        → (task : ℕ) → Contains tasks.items task ↔ IsMetTask search (rows chains.now) outputs at.now task) }
+        → (task : ℕ) → Contains tasks.items task
+        ↔ IsConflictTask search (rows chains.now) outputs at.now task) }
 {
     let mut tasks = Vec::new(alloc);
     for output in near {

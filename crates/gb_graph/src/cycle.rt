@@ -4,10 +4,10 @@ ghost use Rattle.std.specs.Prelude.{MatchOption, IfOk, IsTrue};
 ghost use Rattle.std.specs.Ordering.{is_lt};
 ghost use Rattle.gb_core.specs.Lists.{byte_order};
 ghost use Rattle.gb_graph.specs.Order.{rows, row};
-ghost use Rattle.gb_graph.specs.Settled.{exists_in};
+ghost use Rattle.gb_graph.specs.Settled.{is_marked};
 ghost use Rattle.gb_graph.specs.Cycle.{IsLeastNumber, IsRound, IsTrail, path_at};
 
-use gb_core::tasks::TaskList;
+use gb_core::task_paths::TaskList;
 use gb_plan::plan::Planned;
 use std::alloc::{AllocError, Global};
 
@@ -16,7 +16,7 @@ fn least_of(tasks: &[Planned], numbers: &[usize], marks: &[bool]) -> Option<usiz
     requires known { (number : ℕ) → Contains numbers.now number → number < length tasks.now }
     requires each { length marks.now ≡ length tasks.now }
     ensures { MatchOption result
-        ((number : ℕ) → Contains numbers.now number → exists_in marks.now number ≡ false)
+        ((number : ℕ) → Contains numbers.now number → is_marked marks.now number ≡ false)
         (λ number. IsLeastNumber tasks.now numbers.now marks.now number) }
 {
     let mut least = None;
@@ -63,10 +63,10 @@ fn trail_of(
         → before < length tasks.now }
     requires rows { length after.now ≡ length tasks.now }
     requires each { length marks.now ≡ length tasks.now }
-    requires start { exists_in marks.now start ≡ true }
-    requires goes_on { (number : ℕ) → exists_in marks.now number ≡ true
+    requires start { is_marked marks.now start ≡ true }
+    requires goes_on { (number : ℕ) → is_marked marks.now number ≡ true
         → (next : ℕ) × Contains (row (rows after.now) number) next
-        × (exists_in marks.now next ≡ true) }
+        × (is_marked marks.now next ≡ true) }
     ensures { IfOk result (λ found.
         IsTrail tasks.now (rows after.now) marks.now start found.0.items found.1) }
 {
@@ -115,10 +115,10 @@ pub(crate) fn round_of(
     requires rows { length after.now ≡ length tasks.now }
     requires each { length marks.now ≡ length tasks.now }
     requires among { (number : ℕ) → Contains numbers.now number → number < length tasks.now }
-    requires some { (number : ℕ) × Contains numbers.now number × (exists_in marks.now number ≡ true) }
-    requires goes_on { (number : ℕ) → exists_in marks.now number ≡ true
+    requires some { (number : ℕ) × Contains numbers.now number × (is_marked marks.now number ≡ true) }
+    requires goes_on { (number : ℕ) → is_marked marks.now number ≡ true
         → (next : ℕ) × Contains (row (rows after.now) number) next
-        × (exists_in marks.now next ≡ true) }
+        × (is_marked marks.now next ≡ true) }
     ensures { IfOk result (λ cycle.
         IsRound tasks.now (rows after.now) marks.now numbers.now cycle.items) }
 {

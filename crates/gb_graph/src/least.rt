@@ -8,11 +8,11 @@ ghost use Rattle.gb_graph.specs.Order.{rows};
 ghost use Rattle.gb_graph.specs.Cycle.{path_at};
 ghost use Rattle.gb_graph.specs.Places.{IsRising};
 ghost use Rattle.gb_graph.specs.declared.places.TaskPlace.{TaskPlace};
-ghost use Rattle.gb_graph.specs.Conflicts.{IsLeast, IsLeastTask, IsMet, IsWithin};
+ghost use Rattle.gb_graph.specs.Conflicts.{IsLeast, IsLeastTask, IsConflictThere, IsWithin};
 ghost use Rattle.gb_graph.specs.Conflicts.{found_by, lesser, conflict_by};
 
-use crate::conflicting::{Search, met_at};
-use crate::last::{near_at, no_place};
+use crate::conflicting::{Search, conflicts_at};
+use crate::last_overlap::{near_at, no_place};
 use crate::places::{TaskPlace, place_of};
 use gb_core::path::TaskPath;
 use gb_core::place::Place;
@@ -33,7 +33,7 @@ pub struct Found {
 
 /// The same by number: two tasks, and an index in a row of places.
 #[derive(Clone, Copy)]
-pub struct Met {
+pub struct FoundConflict {
     /// The number of the first task in its plan.
     pub task: usize,
     /// The number of the task with which it conflicts.
@@ -50,7 +50,7 @@ fn path_of(tasks: &[Planned], number: usize) -> &TaskPath
 }
 
 /// Whether one comes before another: by the first task, then by the other, then by the place.
-fn is_before(tasks: &[Planned], places: &[TaskPlace], a: Met, b: Met) -> bool
+fn is_before(tasks: &[Planned], places: &[TaskPlace], a: FoundConflict, b: FoundConflict) -> bool
     requires a { IsWithin tasks.now places.now a }
     requires b { IsWithin tasks.now places.now b }
     ensures { result ≡ is_before (conflict_by tasks.now places.now a) (conflict_by tasks.now places.now b) }
@@ -68,9 +68,9 @@ fn is_before(tasks: &[Planned], places: &[TaskPlace], a: Met, b: Met) -> bool
 fn lesser(
     tasks: &[Planned],
     places: &[TaskPlace],
-    found: Option<Met>,
-    other: Option<Met>,
-) -> Option<Met>
+    found: Option<FoundConflict>,
+    other: Option<FoundConflict>,
+) -> Option<FoundConflict>
     requires found { MatchOption found (Unit {0}) (IsWithin tasks.now places.now) }
     requires other { MatchOption other (Unit {0}) (IsWithin tasks.now places.now) }
     ensures lesser { found_by tasks.now places.now result
@@ -118,16 +118,16 @@ fn least_task(tasks: &[Planned], numbers: &[usize]) -> Option<usize>
 }
 
 /// The least conflict of a task at a place with these tasks.
-fn least_at(tasks: &[Planned], task: usize, place: usize, others: &[usize]) -> Option<Met>
+fn least_at(tasks: &[Planned], task: usize, place: usize, others: &[usize]) -> Option<FoundConflict>
     requires { (other : ℕ) → Contains others.now other → other < length tasks.now }
     ensures { MatchOption result (others.now ≡ []) (λ met. (met.task ≡ task) × (met.place ≡ place)
         × IsLeastTask tasks.now others.now met.other) }
 {
-    least_task(tasks, others).map(|other| Met { task, other, place })
+    least_task(tasks, others).map(|other| FoundConflict { task, other, place })
 }
 
 /// Whether every conflict of a task comes after the conflict that was found.
-fn is_later(tasks: &[Planned], task: usize, found: Option<Met>) -> bool
+fn is_later(tasks: &[Planned], task: usize, found: Option<FoundConflict>) -> bool
     requires task { task < length tasks.now }
     requires found { MatchOption found (Unit {0}) (λ met. met.task < length tasks.now) }
     ensures { MatchOption found (result ≡ false) (λ met.
@@ -142,7 +142,7 @@ fn is_later(tasks: &[Planned], task: usize, found: Option<Met>) -> bool
 fn copied(
     tasks: &[Planned],
     places: &[TaskPlace],
-    found: Option<Met>,
+    found: Option<FoundConflict>,
 ) -> Result<Option<Found>, AllocError>
     requires { MatchOption found (Unit {0}) (IsWithin tasks.now places.now) }
     ensures { IfOk result (λ copied. copied ≡ found_by tasks.now places.now found) }
@@ -160,7 +160,7 @@ fn copied(
 /// The least conflict of the tasks of these places with the tasks of outputs. It visits only the
 /// pairs that overlap, of each task at most two outputs at once, and skips the places of tasks that
 /// come after a task with a conflict.
-pub fn least_met(
+pub fn least_conflict(
     alloc: Global,
     search: Search,
     chains: &[Vec<u64>],
@@ -172,7 +172,7 @@ pub fn least_met(
     requires outputs { (at : TaskPlace) → Contains outputs.now at → at.task < length tasks.now }
     requires places { (at : TaskPlace) → Contains places.now at → at.task < length tasks.now }
     ensures { IfOk result (λ least.
-        IsLeast (IsMet search (rows chains.now) tasks.now outputs.now places.now) least) }
+        IsLeast (IsConflictThere search (rows chains.now) tasks.now outputs.now places.now) least) }
 {
     let mut least = None;
     let mut last = no_place(alloc);
@@ -180,7 +180,7 @@ pub fn least_met(
         let task = places[place].task;
         if !is_later(tasks, task, least) {
             last = near_at(alloc, outputs, places, place, last)?;
-            let others = met_at(alloc, search, chains, last.near.as_slice(), &places[place])?;
+            let others = conflicts_at(alloc, search, chains, last.near.as_slice(), &places[place])?;
             let met = least_at(tasks, task, place, others.as_slice());
             least = lesser(tasks, places, least, met);
         }

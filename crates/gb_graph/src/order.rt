@@ -1,11 +1,24 @@
 //! The order of tasks that are numbered by rank: each is the least task whose predecessors are
 //! already placed.
+//!
+//! Input: for each task the row of the tasks that it comes after. Output: the tasks in order; those
+//! on a cycle, and those after one, are left out. The steps:
+//!
+//! 1. Each task is settled: if a task of its row is not placed, it is appended to the waiting list
+//!    of one such task, else it is ready.
+//! 2. The least ready task is placed, and each task in its waiting list is settled again. This is
+//!    repeated until no task is ready.
+//!
+//! What makes it right (`Keeps` in `specs/Settled.antt`): each task that is not placed is ready, or
+//! waits for one task of its row that is not placed. So if none is ready, none could be placed. The
+//! cost: the cursor of a task only moves past placed tasks, so each row is passed over at most
+//! twice, and the set of ready tasks takes n log n steps for n tasks.
 ghost use Rattle.std.specs.Prelude.{◌≡◌, ◌<◌, ℕ, length, Contains, MatchOption, slice_index_or, false, true};
 ghost use Rattle.std.specs.Prelude.{OnOk, IfOk, vec_len};
 ghost use Rattle.std.specs.BTreeSet.{contains};
 ghost use Rattle.std.specs.Ordering.{nat_cmp};
 ghost use Rattle.gb_graph.specs.Order.{rows, row, AreTasks, IsOrder};
-ghost use Rattle.gb_graph.specs.Settled.{IsSettled, exists_in};
+ghost use Rattle.gb_graph.specs.Settled.{IsSettled, is_marked};
 
 use std::alloc::{AllocError, Global};
 use std::collections::BTreeSet;
@@ -15,8 +28,8 @@ use std::mem;
 fn first_open(row: &[usize], exists: &[bool]) -> Option<usize>
     requires known { (before : ℕ) → Contains row.now before → before < length exists.now }
     ensures cases { MatchOption result
-        ((before : ℕ) → Contains row.now before → exists_in exists.now before ≡ true)
-        (λ missing. Contains row.now missing × (exists_in exists.now missing ≡ false)) }
+        ((before : ℕ) → Contains row.now before → is_marked exists.now before ≡ true)
+        (λ missing. Contains row.now missing × (is_marked exists.now missing ≡ false)) }
 {
     for before in row {
         if !exists[*before] {
@@ -30,8 +43,8 @@ fn first_open(row: &[usize], exists: &[bool]) -> Option<usize>
 fn open_from(row: &[usize], exists: &[bool], cursor: &mut usize) -> Option<usize>
     requires known { (before : ℕ) → Contains row.now before → before < length exists.now }
     ensures cases { MatchOption result
-        ((before : ℕ) → Contains row.now before → exists_in exists.now before ≡ true)
-        (λ missing. Contains row.now missing × (exists_in exists.now missing ≡ false)) }
+        ((before : ℕ) → Contains row.now before → is_marked exists.now before ≡ true)
+        (λ missing. Contains row.now missing × (is_marked exists.now missing ≡ false)) }
 {
     for at in *cursor..row.len() {
         if !exists[row[at]] {

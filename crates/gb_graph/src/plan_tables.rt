@@ -1,11 +1,11 @@
 //! The tables that are used to check a plan.
 ghost use Rattle.std.specs.Prelude.{◌≡◌, [], true, IfOk};
 ghost use Rattle.gb_plan.specs.Graph.{order, no_repeats, stuck};
-ghost use Rattle.gb_graph.specs.Conflicts.{AreTables, IsLeast, Meets, places_for};
+ghost use Rattle.gb_graph.specs.Conflicts.{AreTables, IsLeast, IsConflict, places_for};
 
 use crate::chained::chains_in;
 use crate::conflicting::Search;
-use crate::least::{Found, least_met};
+use crate::least::{Found, least_conflict};
 use crate::places::{TaskPlace, outputs_of, roots_of, sort_by_place, thinned};
 use gb_plan::plan::Planned;
 use std::alloc::{AllocError, Global};
@@ -59,11 +59,11 @@ pub fn least_of(
 ) -> Result<Option<Found>, AllocError>
     requires once { no_repeats (order tasks.now) ≡ true }
     requires tables { AreTables tasks.now tables.now }
-    ensures { IfOk result (IsLeast (Meets tasks.now search)) }
+    ensures { IfOk result (IsLeast (IsConflict tasks.now search)) }
 {
     let chains = tables.chains.as_slice();
     let outputs = tables.outputs.as_slice();
-    least_met(
+    least_conflict(
         alloc,
         search,
         chains,

@@ -6,24 +6,25 @@ ghost use Rattle.gb_plan.specs.declared.plan.Planned.{Planned};
 ghost use Rattle.gb_plan.specs.Graph.{Request, IsSchedule, order, stuck};
 ghost use Rattle.gb_plan.specs.Refusal.{IsCycle, IsRefused, request_of};
 ghost use Rattle.gb_graph.specs.Order.{rows};
-ghost use Rattle.gb_graph.specs.Settled.{exists_in};
+ghost use Rattle.gb_graph.specs.Settled.{is_marked};
 ghost use Rattle.gb_graph.specs.Ranked.{AreRanked, AreRanks};
 
 use crate::arrange::{Ranks, in_order, rank, ranks_of};
 use crate::cycle::{paths_of, round_of};
 use crate::schedule::scheduled;
 use crate::tasks::Tasks;
-use gb_core::tasks::TaskList;
+use gb_core::task_paths::TaskList;
 use gb_core::text::Text;
 use gb_plan::plan::Planned;
 use gb_report::fault::Fault;
 use std::alloc::{AllocError, Global};
 
+/// A mark for each of `count` tasks, true at these numbers.
 fn marks_of(alloc: Global, count: usize, numbers: &[usize]) -> Result<Vec<bool>, AllocError>
     requires { (number : ℕ) → Contains numbers.now number → number < count }
     ensures each { IfOk result (λ marks. length marks.items ≡ count) }
     ensures reported { IfOk result (λ marks. (number : ℕ) →
-        (exists_in marks.items number ≡ true) ↔ Contains numbers.now number) }
+        (is_marked marks.items number ≡ true) ↔ Contains numbers.now number) }
 {
     let mut marks = vec![in alloc; false; count]?;
     for number in numbers {

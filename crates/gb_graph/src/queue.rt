@@ -13,7 +13,7 @@ ghost use Rattle.gb_graph.specs.Queue.{IsAsked, added, paths_in};
 
 use crate::tasks::Tasks;
 use gb_core::path::TaskPath;
-use gb_core::tasks::TaskPaths;
+use gb_core::task_paths::TaskPaths;
 use gb_plan::task::TaskDeclaration;
 use gb_report::fault::Fault;
 use std::alloc::{AllocError, Global};

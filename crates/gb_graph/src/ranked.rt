@@ -9,7 +9,7 @@ ghost use Rattle.gb_graph.specs.Ranked.{AreDistinct, AreOthers, HoldEdges, GiveA
 ghost use Rattle.gb_graph.specs.Ranked.{edges_at, edges_from, numbers_in};
 
 use crate::by_path::Numbers;
-use gb_core::tasks::TaskPaths;
+use gb_core::task_paths::TaskPaths;
 use gb_plan::plan::Planned;
 use std::alloc::{AllocError, Global};
 

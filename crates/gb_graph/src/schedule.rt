@@ -12,7 +12,7 @@ use crate::queue::declare_all;
 use crate::selection::{Selection, enqueue_all, select, set_of};
 use crate::tasks::Tasks;
 use crate::worded::{first_words, worded};
-use gb_core::tasks::TaskPaths;
+use gb_core::task_paths::TaskPaths;
 use gb_core::text::Text;
 use gb_plan::plan::Planned;
 use gb_plan::task::TaskDeclaration;

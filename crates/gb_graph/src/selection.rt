@@ -14,7 +14,7 @@ ghost use Rattle.gb_graph.specs.Words.{asked, joined_paths, newly_selected, sele
 use crate::queue::enqueue;
 use crate::tasks::Tasks;
 use gb_core::path::TaskPath;
-use gb_core::tasks::TaskPaths;
+use gb_core::task_paths::TaskPaths;
 use gb_core::text::Text;
 use gb_report::fault::Fault;
 use std::alloc::{AllocError, Global};

@@ -7,7 +7,7 @@ ghost use Rattle.gb_plan.specs.Graph.{Registry, IsRegistry, declaration_at, path
 ghost use Rattle.gb_plan.specs.Refusal.{word_faults};
 
 use gb_core::path::TaskPath;
-use gb_core::tasks::TaskPaths;
+use gb_core::task_paths::TaskPaths;
 use gb_core::text::Text;
 use gb_plan::task::TaskDeclaration;
 use gb_report::fault::Fault;

@@ -12,7 +12,7 @@ ghost use Rattle.gb_graph.specs.Words.{AreDone, AreWorded, brought_rows};
 use crate::by_path::Numbers;
 use crate::reach::first_starts;
 use gb_core::path::TaskPath;
-use gb_core::tasks::TaskPaths;
+use gb_core::task_paths::TaskPaths;
 use gb_plan::plan::Planned;
 use gb_plan::task::TaskDeclaration;
 use std::alloc::{AllocError, Global};

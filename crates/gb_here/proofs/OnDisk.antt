@@ -4,14 +4,14 @@ use Rattle.std.specs.Prelude.{IfSome, nat_eq}
 use Rattle.gb_answer.specs.Answer.{status_of}
 use Rattle.gb_answers.specs.Scratch.{AnsweredSuccessIsFromScratch}
 use Rattle.gb_answers.proofs.Logged.{leaves_from_scratch}
-use Rattle.gb_command.specs.Answered.{DoesFor, Given}
+use Rattle.gb_cli.specs.Answered.{DoesFor, Given}
 use Rattle.gb_build.specs.InvocationAsked.{InvocationRequests}
 use Rattle.gb_disk.specs.Called.{calls_of, disk_device, is_next, supposed_of}
 use Rattle.gb_disk.specs.declared.disk.DiskFolder.{DiskFolder}
 use Rattle.gb_exec.proofs.Asking.{executions_places}
 use Rattle.gb_folder.specs.Calls.{IsReachedBy, Permit, Requests, no_change, none, then}
 use Rattle.gb_logged.specs.Logged.{LogsCalls}
-use Rattle.gb_meaning.specs.declared.events.Invocation.{Invocation}
+use Rattle.gb_semantics.specs.declared.events.Invocation.{Invocation}
 use Rattle.gb_registry.specs.Tables.{Tables}
 use Rattle.gb_report.specs.Fault.{fault_number}
 use Rattle.gb_report.specs.Outcome.{is_successful}

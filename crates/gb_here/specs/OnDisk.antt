@@ -2,12 +2,12 @@
 use Rattle.std.specs.Prelude.{◌≡◌, ◌⊎◌, Result, Err, IfOk}
 use Rattle.gb_answers.specs.Scratch.{LeavesFromScratch}
 use Rattle.gb_build.specs.Invoking.{IsInvocation}
-use Rattle.gb_command.specs.Answered.{Answers, AreRefused, AskFor, Given}
+use Rattle.gb_cli.specs.Answered.{Answers, AreRefused, AskFor, Given}
 use Rattle.gb_disk.specs.Called.{IsAsSupposed, calls_of, contents_of, disk_device, failures_of, may_leave_of}
 use Rattle.gb_disk.specs.Called.{supposed_of}
 use Rattle.gb_disk.specs.declared.disk.DiskFolder.{DiskFolder}
 use Rattle.gb_folder.specs.Calls.{Requests, no_change}
-use Rattle.gb_meaning.specs.declared.events.Invocation.{Invocation}
+use Rattle.gb_semantics.specs.declared.events.Invocation.{Invocation}
 use Rattle.gb_registry.specs.Tables.{Tables}
 use Rattle.gb_report.specs.declared.fault.Fault.{Fault}
 use Rattle.gb_report.specs.declared.report.Report.{Report}

@@ -1,13 +1,13 @@
 //! The program in the current directory, over any kinds of actions and functions of values.
 ghost use Rattle.std.specs.Prelude.{◌≤◌, IfOk};
 
+use crate::arguments::command_words;
 use crate::lock::locks_for;
 use crate::on_disk::run_on_disk;
 use crate::refused::print_refusal;
-use crate::words::command_words;
 use gb_action::actions::Actions;
 use gb_action::table::{ActionTable, TableFault};
-use gb_command::run::UNPRINTED;
+use gb_cli::program::UNPRINTED;
 use gb_disk::disk::DiskFolder;
 use gb_printer::last::Last;
 use gb_printer::page::Page;

@@ -24,8 +24,8 @@
 //! What was set aside: `docs/DECISIONS.md#programs`.
 #![tactic(auto)]
 
+pub mod arguments;
 pub mod here;
 pub mod lock;
 pub mod on_disk;
 pub mod refused;
-pub mod words;

@@ -1,10 +1,11 @@
 //! One build at a time in a folder, and in the folders of its projects.
 ghost use Rattle.std.specs.Prelude.{◌≡◌, codes, map, not, string_bytes, IfOk};
-ghost use Rattle.gb_words.specs.Command.{flag_in, rows_in};
-ghost use Rattle.gb_words.specs.Faults.{ReportsFirst};
-ghost use Rattle.gb_words.specs.Words.{words_faults};
+ghost use Rattle.gb_arguments.specs.Command.{flag_in, rows_in};
+ghost use Rattle.gb_arguments.specs.Faults.{ReportsFirst};
+ghost use Rattle.gb_arguments.specs.Words.{words_faults};
 
-use crate::words::command_words;
+use crate::arguments::command_words;
+use gb_arguments::arguments::read;
 use gb_core::path::ProjectPath;
 use gb_core::place::Place;
 use gb_disk::disk::DiskFolder;
@@ -12,7 +13,6 @@ use gb_folder::folder::Folder;
 use gb_registry::projects::projects;
 use gb_report::fault::Fault;
 use gb_script::{MAX_SCRIPT, read_settings};
-use gb_words::words::read;
 use std::alloc::{AllocError, Global};
 use std::fs::File;
 use std::rt::{Env, Files};

@@ -2,7 +2,7 @@
 ghost use Rattle.std.specs.Prelude.{◌≡◌, ◌≤◌, [], IfSome, Result, map, string_bytes};
 ghost use Rattle.std.specs.Io.KnownBytes.{Appends};
 ghost use Rattle.gb_answer.specs.Answer.{answer_text, status_of};
-ghost use Rattle.gb_command.specs.Answered.{given_of};
+ghost use Rattle.gb_cli.specs.Answered.{given_of};
 ghost use Rattle.gb_disk.specs.Called.{calls_of};
 ghost use Rattle.gb_printer.specs.Printing.{Prints};
 ghost use Rattle.gb_registry.specs.Tables.{tables_of};
@@ -11,9 +11,9 @@ ghost use Rattle.gb_report.specs.declared.report.Report.{Report};
 ghost use Rattle.gb_here.specs.OnDisk.{IsBuiltAsSupposed, IsBuiltOnDisk};
 
 use gb_action::actions::Actions;
+use gb_answers::disk_calls::disk_folders_keep_calls;
 use gb_answers::laws::answered_success_is_from_scratch;
-use gb_answers::on_disk::disk_folders_keep_calls;
-use gb_command::run::run;
+use gb_cli::program::run;
 use gb_disk::disk::DiskFolder;
 use gb_printer::printer::Printer;
 use gb_provider::transforms::Transforms;

@@ -4,7 +4,7 @@ ghost use Rattle.std.specs.Io.KnownBytes.{Appends};
 ghost use Rattle.gb_here.specs.Refused.{refused_text};
 
 use gb_action::table::TableFault;
-use gb_command::run::UNPRINTED;
+use gb_cli::program::UNPRINTED;
 use std::io::Write;
 
 /// Prints why there is no table, and returns the exit status of a refusal.

@@ -10,8 +10,8 @@ use Rattle.serde_json.specs.View.{items_of}
 use Rattle.serde_json.specs.Written.{compact_text}
 use Rattle.gb_core.specs.declared.value.Value.{Value}
 use Rattle.gb_core.specs.declared.value.Value.TheVariants as values
-use Rattle.gb_action.specs.declared.output.Form.{Form}
-use Rattle.gb_action.specs.declared.output.Form.TheVariants as forms
+use Rattle.gb_action.specs.declared.output_files.Form.{Form}
+use Rattle.gb_action.specs.declared.output_files.Form.TheVariants as forms
 use Rattle.gb_plan.specs.declared.task.Action.{Action}
 use Rattle.gb_history.specs.declared.record.OutputRecord.{OutputRecord}
 use Rattle.gb_history.specs.declared.fault.RecordFault.{RecordFault}
@@ -158,8 +158,8 @@ pub record IsRecordRead (path : List ℕ) (text : List ℕ) (result : Result Rec
   pub back : (run : Record) → IsUtf8 path → IsWellFormed run → IsTextOf path run text
       → MatchResult result (λ got. got ≡ run) (λ e. e ≡ faults.OutOfMemory)
 
-abbrev pub TextsSayOneRecord : Type 0
-TextsSayOneRecord =
+abbrev pub TextsHaveOneRecord : Type 0
+TextsHaveOneRecord =
     (path : List ℕ) (one other : Record) (text : List ℕ) → IsUtf8 path → IsWellFormed one
     → IsWellFormed other → IsTextOf path one text → IsTextOf path other text → one ≡ other
 
@@ -169,7 +169,7 @@ pub record IsHistoryText (records : List (List ℕ × Record)) (text : List ℕ)
   pub fits : AllByRecursion (RecordFits edition) records
   pub same : text ≡ history_text_in edition records
 
-abbrev pub TextsSayOneHistory : Type 0
-TextsSayOneHistory =
+abbrev pub TextsHaveOneHistory : Type 0
+TextsHaveOneHistory =
     (one other : List (List ℕ × Record)) (text : List ℕ) → AreHeld one → AreHeld other
     → IsHistoryText one text → IsHistoryText other text → one ≡ other

@@ -20,7 +20,7 @@ pub struct Present {
     pub now: Record,
     /// The names of the incremental file properties.
     pub incremental: Vec<Name>,
-    /// Every task is to run, also where its record says that it is up to date.
+    /// Every task is to run, also if it would be up to date by its record.
     pub rerun: bool,
     /// A test of `upToDateWhen` is false.
     pub is_stale: bool,
@@ -29,11 +29,12 @@ pub struct Present {
 /// What to do with a task.
 #[derive(Drop)]
 pub enum Decision {
-    /// Nothing: all is as its last run left it.
+    /// Nothing: all is as after its last run.
     UpToDate,
-    /// To run incrementally from the last outputs, by the changes of the incremental properties.
+    /// To execute it incrementally, starting from its last outputs, with the changes of the
+    /// incremental properties.
     Incremental(ChangeLists),
-    /// To run in full, from scratch.
+    /// To execute it in full, from scratch.
     Full,
 }
 

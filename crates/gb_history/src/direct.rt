@@ -1,12 +1,12 @@
 //! Reads records from the text of their JSON, in the very form that is written today: each key in
 //! its place, and no blanks.
 //!
-//! `None` means that the text is in no such form, or that there was no memory. No clause says what
-//! is read: a record counts only where it is printed again as the text that was read.
+//! `None` means that the text is in no such form, or that there was no memory. No contract is about
+//! the record that is read: it counts only if its text, printed again, is the text that was read.
 use crate::from_json::in_order;
 use crate::in_order::digests_rise;
 use crate::record::{OutputRecord, Record};
-use gb_action::output::Form;
+use gb_action::output_files::Form;
 use gb_core::name::Name;
 use gb_core::path::TaskPath;
 use gb_core::place::{Place, RelPath};
@@ -19,7 +19,7 @@ use hex::FromHex;
 use json::{Reader, Scratch, Token};
 use std::alloc::Global;
 
-/// What is left of a text, and the memory for strings that are written with escapes.
+/// The rest of a text, and the memory for strings that are written with escapes.
 #[derive(Drop)]
 struct Input<'a> {
     rest: &'a [u8],
@@ -60,7 +60,7 @@ impl<'a> Input<'a> {
         Some(())
     }
 
-    /// All before the first of these bytes.
+    /// All bytes before the first one that is `end`.
     fn before(&mut self, end: u8) -> Option<&'a [u8]> {
         let len = self.rest.iter().position(|byte| *byte == end)?;
         let (before, rest) = self.rest.split_at_checked(len)?;
@@ -68,7 +68,7 @@ impl<'a> Input<'a> {
         Some(before)
     }
 
-    /// What the next string says.
+    /// The content of the next string.
     fn text(&mut self) -> Option<&str> {
         let [b'"', inside @ ..] = self.rest else {
             return None;
@@ -83,7 +83,7 @@ impl<'a> Input<'a> {
         }
     }
 
-    /// What the next string says, which has escapes.
+    /// The content of the next string, which has escapes.
     fn escaped_text(&mut self) -> Option<&str> {
         let len = string_len(self.rest)?;
         let (string, rest) = self.rest.split_at_checked(len)?;
@@ -95,7 +95,7 @@ impl<'a> Input<'a> {
         }
     }
 
-    /// The digest that the next string says in hex.
+    /// The digest that the next string has in hex.
     fn digest(&mut self) -> Option<[u8; 32]> {
         self.pass(b'"')?;
         let (digits, rest) = self.rest.split_at_checked(64)?;
@@ -104,7 +104,7 @@ impl<'a> Input<'a> {
         <[u8; 32] as FromHex>::from_hex(digits).ok()
     }
 
-    /// The number that is all before the first of these bytes.
+    /// The number that the bytes before the first `end` are.
     fn number(&mut self, end: u8) -> Option<u32> {
         let digits = std::str::from_utf8(self.before(end)?).ok()?;
         digits.parse::<u32>().ok()
@@ -116,7 +116,7 @@ fn is_special(byte: u8) -> bool {
     byte == b'"' || byte == b'\\'
 }
 
-/// How many bytes the string has that these begin with, with its quotes.
+/// The length of the string that begins these bytes, with its quotes.
 fn string_len(bytes: &[u8]) -> Option<usize> {
     let mut is_escaped = false;
     for (at, byte) in bytes.iter().enumerate().skip(1) {

@@ -3,8 +3,8 @@
 //!
 //! The promise: a record is read only from exactly the text that is written of it, in one of the
 //! editions (`IsTextOf`). So a damaged, foreign or half-written text is no record, and the task
-//! runs in full. [`decide`] chooses up to date, incremental or full, for any record and any present
-//! state.
+//! is executed in full. [`decide`] chooses up to date, incremental or full, for any record and any
+//! present state.
 //!
 //! A record has the digests of what its run read and made, not the contents. It is written as
 //! compact JSON by a token writer. The reader of today's form ([`direct`]) has no contract of its
@@ -12,9 +12,14 @@
 //! `serde_json` reads all other texts.
 //!
 //! A text that is no record is 80, a number that users never see. `History` holds the records of
-//! all tasks, with a text of its own. Laws: a text has one meaning (`texts_say_one_record`,
-//! `texts_say_one_history`), a record read back from its text is the same, two tasks have two
+//! all tasks, with a text of its own. Laws: a text has one meaning (`texts_have_one_record`,
+//! `texts_have_one_history`), a record read back from its text is the same, two tasks have two
 //! places, and no place is under another (`places_are_distinct`, `no_place_beneath`).
+//!
+//! Set aside: one file for all records, since a damaged text would cost all tasks and the end of
+//! each task would rewrite all records; whole contents in a record, since no folder holds those of
+//! a past run; and `serde_json` alone as the reader. It is kept for all other texts, since only it
+//! distinguishes a text that is no record from a lack of memory.
 #![tactic(auto)]
 
 pub mod decide;

@@ -4,7 +4,7 @@ ghost use Rattle.std.specs.FinMap.Entries.{is_sorted};
 ghost use Rattle.gb_core.specs.Lists.{byte_order};
 ghost use Rattle.gb_history.specs.Record.{AreInOrder, prints_in};
 
-use gb_action::output::Form;
+use gb_action::output_files::Form;
 use gb_action::values::NamedValues;
 use gb_core::place::Place;
 use gb_plan::task::Action;
@@ -21,7 +21,7 @@ pub enum Edition {
     Second,
 }
 
-/// An output as a run left it, with the digests of its files.
+/// An output after a run, with the digests of its files.
 #[derive(Drop)]
 pub struct OutputRecord {
     /// One file, or all files under the place.
@@ -99,21 +99,21 @@ impl Record {
         self.actions.as_slice()
     }
 
-    /// The input values that they read, by ascending names.
+    /// The input values that the actions read, by ascending names.
     pub fn values(&self) -> &NamedValues
         ensures { result.now ≡ self.now.values }
     {
         &self.values
     }
 
-    /// The digests of the files that they read, a row for each file property by ascending names.
+    /// The digests of the files that the actions read, a row for each property by ascending names.
     pub fn inputs(&self) -> &[Prints]
         ensures { result.now ≡ self.now.inputs }
     {
         self.inputs.as_slice()
     }
 
-    /// What the run left of each output, by ascending names.
+    /// Each output after the run, by ascending names.
     pub fn outputs(&self) -> &[OutputRecord]
         ensures { result.now ≡ self.now.outputs }
     {

@@ -1,4 +1,5 @@
-//! The text of a record, the record with a text, and what these share with a whole history.
+//! Writes the text of a record, reads a record from its text, and has what the text of a whole
+//! history needs of both.
 ghost use Rattle.std.specs.Prelude.{◌≡◌, ◌++◌, [], List, ℕ, IfOk, OnOk, IsTrue, IfSome};
 ghost use Rattle.std.specs.Prelude.{OnSome, MatchResult, ◌↔◌};
 ghost use Rattle.std.specs.List.{AllByRecursion};
@@ -9,7 +10,7 @@ ghost use Rattle.sha2.specs.Sha256.{sha256};
 ghost use Rattle.gb_history.specs.Record.{Record as Recorded, IsWellFormed, IsSaid};
 ghost use Rattle.gb_history.specs.Text.{history_json, record_json, record_text, text_in, history_text_in};
 ghost use Rattle.gb_history.specs.Text.{seal, sealed, unsealed, FitsEdition, IsRecordRead, IsTextOf};
-ghost use Rattle.gb_history.specs.Text.{TextsSayOneRecord, TextsSayOneHistory};
+ghost use Rattle.gb_history.specs.Text.{TextsHaveOneRecord, TextsHaveOneHistory};
 ghost use Rattle.gb_history.specs.Tokens.{data_tokens};
 ghost use Rattle.gb_history.specs.declared.record.Edition.{Edition as Written};
 ghost use Rattle.gb_history.specs.declared.fault.RecordFault.TheVariants.{OutOfMemory};
@@ -107,7 +108,7 @@ pub fn is_same(left: &[u8], right: &[u8]) -> bool
     left == right
 }
 
-/// The bytes of a text that its seal is of: those before its last 66.
+/// The bytes of a text over which its seal is computed: those before its last 66.
 pub fn unsealed(bytes: &[u8]) -> &[u8]
     ensures { result.now ≡ unsealed bytes.now }
 {
@@ -177,7 +178,7 @@ pub struct RecordReader {
 }
 
 impl RecordReader {
-    /// A reader.
+    /// A reader whose working memory is empty.
     pub fn new(alloc: Global) -> RecordReader {
         RecordReader {
             alloc,
@@ -242,11 +243,11 @@ pub fn through_text(alloc: Global, path: &TaskPath, run: &Record) -> Result<Reco
 }
 
 /// A text is that of at most one record of a task.
-pub fn texts_say_one_record()
-    ensures { TextsSayOneRecord }
+pub fn texts_have_one_record()
+    ensures { TextsHaveOneRecord }
 {}
 
 /// A text is that of at most one history.
-pub fn texts_say_one_history()
-    ensures { TextsSayOneHistory }
+pub fn texts_have_one_history()
+    ensures { TextsHaveOneHistory }
 {}

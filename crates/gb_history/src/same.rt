@@ -11,7 +11,7 @@ use gb_tree::prints::Prints;
 
 /// What can be compared with another of its type.
 pub trait Same {
-    /// Whether the two are equal in all that records have of them.
+    /// Whether the two are equal in everything that contracts view of them.
     fn is_same(&self, other: &Self) -> bool
         ensures { IsTrue result ↔ (self.now ≡ other.now) };
 }

@@ -15,7 +15,7 @@ ghost use Rattle.gb_history.specs.Text.{edition_number, record_json, held_json, 
 ghost use Rattle.gb_history.specs.Tokens.{data_tokens};
 
 use crate::record::{Edition, OutputRecord, Record};
-use gb_action::output::Form;
+use gb_action::output_files::Form;
 use gb_core::name::Name;
 use gb_core::path::TaskPath;
 use gb_core::place::RelPath;

@@ -13,7 +13,7 @@ use Rattle.gb_action.specs.Outputs.{written_at, exists_at, is_removed}
 use Rattle.gb_action.specs.Shapes.{target}
 use Rattle.gb_action.specs.declared.change.Change.{Change}
 use Rattle.gb_action.specs.declared.change.Change.TheVariants.{Added, Modified}
-use Rattle.gb_action.specs.declared.output.OutputFiles.{OutputFiles}
+use Rattle.gb_action.specs.declared.output_files.OutputFiles.{OutputFiles}
 use Rattle.gb_action.specs.declared.reply.OutputPath.{OutputPath}
 use Rattle.gb_action.specs.declared.reply.Written.{Written}
 use Rattle.gb_kinds.specs.ByFile.{by_file, file_of, holds, where_new, rewritten, writes_for, removes_for}

@@ -6,7 +6,7 @@ use Rattle.gb_core.specs.declared.value.Value.TheVariants as values
 use Rattle.gb_action.specs.Meanings.{Making, Printing}
 use Rattle.gb_action.specs.Replies.{Answers, made_for}
 use Rattle.gb_action.specs.Shapes.{IsAsked, args_fit}
-use Rattle.gb_action.specs.declared.output.Form.{Form}
+use Rattle.gb_action.specs.declared.output_files.Form.{Form}
 use Rattle.gb_action.specs.declared.request.Request.{Request}
 use Rattle.gb_action.specs.declared.shape.Arg.TheVariants as args
 use Rattle.gb_action.specs.declared.shape.Parameter.TheVariants.{Required}

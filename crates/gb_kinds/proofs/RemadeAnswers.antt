@@ -11,7 +11,7 @@ use Rattle.gb_action.specs.Meanings.{Making}
 use Rattle.gb_action.specs.Outputs.{written_at, exists_at, left_at, is_named, is_removed, names_only}
 use Rattle.gb_action.specs.Replies.{Answers, CarriesOver, FollowsOn, made_for}
 use Rattle.gb_action.specs.Shapes.{source, target}
-use Rattle.gb_action.specs.declared.output.OutputFiles.{OutputFiles}
+use Rattle.gb_action.specs.declared.output_files.OutputFiles.{OutputFiles}
 use Rattle.gb_action.specs.declared.reply.Reply.{Reply}
 use Rattle.gb_action.specs.declared.reply.Written.{Written}
 use Rattle.gb_action.specs.declared.request.Request.{Request}

@@ -8,7 +8,7 @@ use Rattle.gb_core.specs.Lists.{byte_order}
 use Rattle.gb_action.specs.Files.{Tree, file_at}
 use Rattle.gb_action.specs.Outputs.{written_at, files_of, exists_at, is_removed}
 use Rattle.gb_action.specs.Shapes.{target}
-use Rattle.gb_action.specs.declared.output.OutputFiles.{OutputFiles}
+use Rattle.gb_action.specs.declared.output_files.OutputFiles.{OutputFiles}
 use Rattle.gb_core.proofs.Found.{find-same, find-other}
 use Rattle.gb_kinds.specs.ByFile.{file_of, holds, where_new}
 use Rattle.gb_kinds.specs.Remade.{outdated, renewed, existing}

@@ -9,8 +9,8 @@ use Rattle.gb_action.specs.Files.{tree_at}
 use Rattle.gb_action.specs.Meanings.{Making, Printing}
 use Rattle.gb_action.specs.Replies.{Answers}
 use Rattle.gb_action.specs.Shapes.{IsAsked, source}
-use Rattle.gb_action.specs.declared.output.Form.{Form}
-use Rattle.gb_action.specs.declared.output.Form.TheVariants.{File, Dir}
+use Rattle.gb_action.specs.declared.output_files.Form.{Form}
+use Rattle.gb_action.specs.declared.output_files.Form.TheVariants.{File, Dir}
 use Rattle.gb_action.specs.declared.reply.Reply.{Reply}
 use Rattle.gb_action.specs.declared.reply.ActionFault.{ActionFault}
 use Rattle.gb_action.specs.declared.request.Request.{Request}

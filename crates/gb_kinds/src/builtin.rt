@@ -36,7 +36,10 @@ pub struct StoredAction {
 }
 
 impl StoredAction {
-    /// Stores a closure that implements the kind of this number, whose shape is `shape`.
+    /// Stores a closure that implements the kind of this number, whose signature is `shape`. The
+    /// numbers are those of [`shapes`](crate::shapes), and a version is at least 1. It takes no
+    /// memory and cannot fail. The closure gets the allocator and one request, and is called for
+    /// each run of a task with the action.
     pub fn new(kind: u16, version: u32, shape: Shape, run: Run) -> StoredAction
         requires positive { 1 ≤ version }
         requires shaped { shape ≡ builtin_shape kind }

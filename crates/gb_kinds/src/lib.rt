@@ -2,8 +2,8 @@
 //!
 //! The promise: a full reply has exactly the files that the kind's definition makes, and an
 //! incremental one names only paths at which old and new files differ. [`builtin::Builtin`] gives
-//! each kind, by its number, that meaning. Each kind is one plain function in `texts.rt` or
-//! `files.rt`, and each function of values one in `functions.rt`.
+//! each kind, by its number, that meaning. Each kind is one plain function in `text_kinds.rt` or
+//! `file_kinds.rt`, and each function of values one in `functions.rt`.
 //!
 //! A program boxes the functions and adds them to a table ([`table`], [`function_table`]). No
 //! function here can make the boxes, since the facts known about a boxed closure would then depend
@@ -20,8 +20,8 @@ pub mod builtin;
 pub mod by_file;
 mod carried;
 pub mod edit;
+pub mod file_kinds;
 mod file_words;
-pub mod files;
 pub mod function_table;
 pub mod functions;
 mod index;
@@ -34,4 +34,4 @@ pub mod request_files;
 pub mod shapes;
 pub mod stored;
 pub mod table;
-pub mod texts;
+pub mod text_kinds;

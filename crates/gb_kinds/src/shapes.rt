@@ -3,7 +3,7 @@ ghost use Rattle.std.specs.Prelude.{◌≡◌, [], ◌∷◌, IfOk};
 ghost use Rattle.gb_action.specs.declared.shape.Parameter.TheVariants.{Required};
 ghost use Rattle.gb_kinds.specs.Builtin.{builtin_shape, of_files, of_texts};
 
-use gb_action::output::Form;
+use gb_action::output_files::Form;
 use gb_action::shape::{Arg, ArgList, Shape};
 use std::alloc::{AllocError, Global};
 

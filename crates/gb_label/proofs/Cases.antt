@@ -3,10 +3,10 @@ use Rattle.std.specs.Prelude.{ℕ, ◌≡◌, ◌≤◌, ◌++◌, not, Bool, tr
 use Rattle.std.proofs.Common.{refl, sym, ap, ◌∙◌, inl, inr}
 use Rattle.gb_core.specs.Lists.{first_of}
 use Rattle.gb_folder.specs.Files.{Contents, is_empty}
-use Rattle.gb_meaning.specs.Label.{Early, HasNoActions, HasNoSource, Skips, early_case}
-use Rattle.gb_meaning.specs.Label as label
-use Rattle.gb_meaning.specs.Tree.{has_no_source, input_faults, listing_faults}
-use Rattle.gb_meaning.proofs.Common.{none_some}
+use Rattle.gb_semantics.specs.Label.{Early, HasNoActions, HasNoSource, Skips, early_case}
+use Rattle.gb_semantics.specs.Label as label
+use Rattle.gb_semantics.specs.Tree.{has_no_source, input_faults, listing_faults}
+use Rattle.gb_semantics.proofs.Common.{none_some}
 use Rattle.gb_plan.specs.declared.task.TaskDeclaration.{TaskDeclaration as Task}
 use Rattle.gb_report.specs.declared.fault.Fault.{Fault}
 use Rattle.gb_folder.proofs.Machine.{machine_before}

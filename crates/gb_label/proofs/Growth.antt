@@ -4,8 +4,8 @@ use Rattle.std.specs.List.{AllByRecursion, filter, flat_map, list_any}
 use Rattle.std.proofs.Common.{refl, sym, ap, subst, ◌∙◌, inl, inr, cond}
 use Rattle.gb_core.specs.Lists.{first_of}
 use Rattle.gb_folder.specs.Files.{Contents, Files, Place, is_empty, is_special_under, is_own, places_under}
-use Rattle.gb_meaning.specs.Tree.{listing_faults, reported_of_tree}
-use Rattle.gb_meaning.proofs.Common.{none_some, some_same}
+use Rattle.gb_semantics.specs.Tree.{listing_faults, reported_of_tree}
+use Rattle.gb_semantics.proofs.Common.{none_some, some_same}
 use Rattle.gb_plan.proofs.Tests.{not_false}
 use Rattle.gb_plan.specs.Task.{output_places}
 use Rattle.gb_plan.specs.declared.task.Output.{Output}

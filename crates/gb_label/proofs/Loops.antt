@@ -6,7 +6,7 @@ use Rattle.std.proofs.lemmas.List.{take_more, map-append}
 use Rattle.std.proofs.lemmas.List.Concat.{flat_map-append}
 use Rattle.gb_core.specs.Lists.{first_of}
 use Rattle.gb_folder.specs.Files.{is_empty}
-use Rattle.gb_meaning.proofs.Common.{none_some}
+use Rattle.gb_semantics.proofs.Common.{none_some}
 use Rattle.gb_plan.proofs.Tests.{any_append, or_right, not_false}
 
 -- a property of all elements holds of this one

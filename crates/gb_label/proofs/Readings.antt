@@ -4,11 +4,11 @@ use Rattle.std.proofs.lemmas.List.{take_more, map-append}
 use Rattle.std.proofs.lemmas.Slice.Zip.{all_zipped_more}
 use Rattle.std.specs.List.{AllByRecursion, AllZip, zip}
 use Rattle.gb_action.specs.Files.{Tree}
-use Rattle.gb_action.specs.declared.output.Form.{Form}
-use Rattle.gb_action.specs.declared.output.OutputFiles.{OutputFiles}
+use Rattle.gb_action.specs.declared.output_files.Form.{Form}
+use Rattle.gb_action.specs.declared.output_files.OutputFiles.{OutputFiles}
 use Rattle.gb_folder.specs.Files.{Files, Place}
 use Rattle.gb_history.specs.Record.{Prints, prints_in}
-use Rattle.gb_meaning.specs.Tree.{tree_of}
+use Rattle.gb_semantics.specs.Tree.{tree_of}
 use Rattle.gb_plan.specs.Task.{given_outputs}
 use Rattle.gb_plan.specs.declared.task.FileProperty.{FileProperty}
 use Rattle.gb_plan.specs.declared.task.Output.{Output}

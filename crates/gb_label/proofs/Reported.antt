@@ -8,8 +8,8 @@ use Rattle.gb_tree.specs.declared.fault.TreeFault.{TreeFault}
 use Rattle.gb_tree.specs.declared.fault.TreeFault.TheVariants as trees
 use Rattle.gb_tree.specs.Tree.{IsTreeFaultOfMachine}
 use Rattle.gb_folder.specs.Faults.{IsOfMachine}
-use Rattle.gb_meaning.specs.Tree.{reported_of_tree}
-use Rattle.gb_meaning.proofs.Common.{none_some, some_same}
+use Rattle.gb_semantics.specs.Tree.{reported_of_tree}
+use Rattle.gb_semantics.proofs.Common.{none_some, some_same}
 
 -- the place of a fault that is attributed to the device
 abbrev blamed_by : Fault → Option Place

@@ -5,7 +5,7 @@ use Rattle.std.proofs.Common.{refl, sym, ap, ◌∙◌, arith, cond}
 use Rattle.std.proofs.lemmas.List.{take_all}
 use Rattle.gb_action.specs.Files.{Tree}
 use Rattle.gb_folder.specs.Files.{Files, is_empty}
-use Rattle.gb_meaning.specs.Tree.{has_no_source, tree_of, trees_of}
+use Rattle.gb_semantics.specs.Tree.{has_no_source, tree_of, trees_of}
 use Rattle.gb_plan.specs.declared.task.FileProperty.{FileProperty}
 use Rattle.gb_plan.specs.declared.task.TaskDeclaration.{TaskDeclaration as Task}
 use Rattle.gb_tree.specs.Prints.{digests_of}

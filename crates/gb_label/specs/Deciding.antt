@@ -10,8 +10,8 @@ use Rattle.gb_history.specs.declared.decide.Decision.TheVariants as decisions
 use Rattle.gb_history.specs.declared.decide.Decision.TheVariants.{Full}
 use Rattle.gb_history.specs.declared.decide.Present.{Present}
 use Rattle.gb_history.specs.declared.record.OutputRecord.{OutputRecord}
-use Rattle.gb_meaning.specs.Outline.{MayAnswer}
-use Rattle.gb_meaning.specs.Tree.{trees_of}
+use Rattle.gb_semantics.specs.Outline.{MayAnswer}
+use Rattle.gb_semantics.specs.Tree.{trees_of}
 use Rattle.gb_plan.specs.declared.task.FileProperty.{FileProperty}
 use Rattle.gb_plan.specs.declared.task.TaskDeclaration.{TaskDeclaration as Task}
 use Rattle.gb_report.specs.declared.fault.Fault.{Fault}

@@ -3,8 +3,8 @@ use Rattle.std.specs.Prelude.{ℕ, ◌≡◌, ◌⊎◌, ◌||◌, ◌&&◌, not
 use Rattle.std.specs.List.{list_any, list_all, zip}
 use Rattle.gb_core.specs.Lists.{first_of}
 use Rattle.gb_folder.specs.Files.{Contents, is_empty}
-use Rattle.gb_meaning.specs.Label.{CannotRead, HasNoActions, HasNoSource, Skips, early_case}
-use Rattle.gb_meaning.specs.Tree.{has_no_source, input_faults, trees_of}
+use Rattle.gb_semantics.specs.Label.{CannotRead, HasNoActions, HasNoSource, Skips, early_case}
+use Rattle.gb_semantics.specs.Tree.{has_no_source, input_faults, trees_of}
 use Rattle.gb_plan.specs.declared.task.FileProperty.{FileProperty}
 use Rattle.gb_plan.specs.declared.task.TaskDeclaration.{TaskDeclaration as Task}
 use Rattle.gb_report.specs.declared.fault.Fault.{Fault}

@@ -3,14 +3,14 @@ use Rattle.std.specs.Prelude.{ℕ, ◌≡◌, ◌⊎◌, Bool, List, Some, map, 
 use Rattle.std.specs.List.{AllByRecursion, AllZip, list_any, zip}
 use Rattle.sha2.specs.Sha256.{sha256}
 use Rattle.gb_action.specs.Files.{Trees}
-use Rattle.gb_action.specs.declared.output.OutputFiles.{OutputFiles}
+use Rattle.gb_action.specs.declared.output_files.OutputFiles.{OutputFiles}
 use Rattle.gb_core.specs.Lists.{first_of}
 use Rattle.gb_core.specs.Place.{is_under}
 use Rattle.gb_folder.specs.Files.{Contents, Files, Place}
 use Rattle.gb_history.specs.Record.{Prints}
 use Rattle.gb_history.specs.declared.record.OutputRecord.{OutputRecord}
-use Rattle.gb_meaning.specs.Tree.{reported_of_tree}
-use Rattle.gb_meaning.specs.TrueRecord.{output_record_of}
+use Rattle.gb_semantics.specs.Tree.{reported_of_tree}
+use Rattle.gb_semantics.specs.TrueRecord.{output_record_of}
 use Rattle.gb_plan.specs.declared.task.FileProperty.{FileProperty}
 use Rattle.gb_plan.specs.declared.task.Output.{Output}
 use Rattle.gb_plan.specs.Task.{is_output_of, roots_of}

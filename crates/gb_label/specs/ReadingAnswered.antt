@@ -2,7 +2,7 @@
 use Rattle.std.specs.Prelude.{ℕ, List}
 use Rattle.std.specs.List.{AllZip}
 use Rattle.gb_action.specs.Files.{Trees}
-use Rattle.gb_action.specs.declared.output.OutputFiles.{OutputFiles}
+use Rattle.gb_action.specs.declared.output_files.OutputFiles.{OutputFiles}
 use Rattle.gb_folder.specs.Files.{Files}
 use Rattle.gb_plan.specs.declared.task.FileProperty.{FileProperty}
 use Rattle.gb_plan.specs.declared.task.Output.{Output}

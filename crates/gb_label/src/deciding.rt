@@ -5,10 +5,10 @@ ghost use Rattle.gb_folder.specs.Calls.{OnlyReads, Requests, no_change};
 ghost use Rattle.gb_folder.specs.Files.{is_empty, is_own};
 ghost use Rattle.gb_history.specs.Decision.{DecidesFrom};
 ghost use Rattle.gb_history.specs.Record.{prints_in};
-ghost use Rattle.gb_meaning.specs.Tree.{listing_faults, trees_of};
+ghost use Rattle.gb_semantics.specs.Tree.{listing_faults, trees_of};
 ghost use Rattle.gb_plan.specs.Task.{is_output_of};
 ghost use Rattle.gb_folder.specs.Faults.{Blames, BlamesOnly};
-ghost use Rattle.gb_tree.specs.Seen.{AreSeen, AreSeenIn};
+ghost use Rattle.gb_tree.specs.DigestCache.{AreCached, AreCachedIn};
 ghost use Rattle.gb_label.specs.Answered.{WasDecided};
 ghost use Rattle.gb_label.specs.Deciding.{AreOutputsFor, AreOutputsObservedFor, FollowsFrom, HasNamesInOrder};
 ghost use Rattle.gb_label.specs.Deciding.{IsBasisIn, IsGrown, IsPresentOf, MayDecide};
@@ -16,7 +16,7 @@ ghost use Rattle.gb_label.specs.ReadingAnswered.{AreOutputsAnswered};
 ghost use Rattle.gb_label.specs.Reading.{AreOutputs, AreOutputsObserved, CannotRead};
 ghost use Rattle.gb_label.specs.Reading.{digests_in, print_faults, prints_read, recorded_of, records_with};
 
-use crate::listing::check_outputs;
+use crate::output_listing::check_outputs;
 use crate::outputs::{read_outputs, records_of};
 use crate::present::present_of;
 use crate::prints::prints_of;
@@ -27,9 +27,9 @@ use gb_history::record::Record;
 use gb_plan::task::{Output, TaskDeclaration};
 use gb_report::fault::Fault;
 use gb_report::report::Options;
+use gb_tree::digest_cache::DigestCache;
 use gb_tree::kept::Reading;
 use gb_tree::prints::Prints;
-use gb_tree::seen::Seen;
 use std::alloc::{AllocError, Global};
 
 /// Why a task runs in full, whatever its record says.
@@ -77,7 +77,7 @@ pub fn decided<F: Folder>(
     options: Options,
     old: Option<&Record>,
     inputs: &[Reading],
-    seen: &Seen,
+    seen: &DigestCache,
     room: u64,
 ) -> Result<Verdict, Fault>
     requires in_order { HasNamesInOrder task.now }
@@ -94,21 +94,22 @@ pub fn decided<F: Folder>(
     // Over any folder: if it may execute incrementally, its outputs were read.
     ensures read { IfOk result (λ found. AreOutputsFor task.now found.decision found.outputs.items) }
     ensures answered { (first : _) → Requests F.device no_change first folder.old
-        → AreSeen F.device first folder.old seen.now
+        → AreCached F.device first folder.old seen.now
         → IfOk result (λ found. WasDecided F.device first folder.new
         options task.now (option_copied old.entry) inputs.now found.decision found.outputs.items) }
-    ensures based { F.device.faithful folder.new → AreSeenIn (F.device.contents folder.old).files seen.now
+    ensures based { F.device.faithful folder.new → AreCachedIn (F.device.contents folder.old).files seen.now
         → prints_read inputs.now ≡ digests_in (trees_of task.now (F.device.contents folder.old).files)
         → IfOk result (λ found. IsBasisIn options task.now (F.device.contents folder.old) found.basis) }
-    ensures observed { F.device.faithful folder.new → AreSeenIn (F.device.contents folder.old).files seen.now
+    ensures observed { F.device.faithful folder.new
+        → AreCachedIn (F.device.contents folder.old).files seen.now
         → IfOk result
         (λ found. AreOutputsObservedFor task.now (F.device.contents folder.old).files found.decision
         found.outputs.items) }
-    ensures none_special { F.device.faithful folder.new → AreSeenIn (F.device.contents folder.old).files
+    ensures none_special { F.device.faithful folder.new → AreCachedIn (F.device.contents folder.old).files
         seen.now
         → OnOk result
         (listing_faults task.now (F.device.contents folder.old) ≡ []) }
-    ensures err { F.device.faithful folder.new → AreSeenIn (F.device.contents folder.old).files seen.now
+    ensures err { F.device.faithful folder.new → AreCachedIn (F.device.contents folder.old).files seen.now
         → IfErr result (CannotRead (F.device.failures folder.old) (F.device.failures folder.new)
         (listing_faults task.now (F.device.contents folder.old))) }
 {
@@ -158,7 +159,7 @@ fn by_record<F: Folder>(
     options: Options,
     run: &Record,
     inputs: &[Reading],
-    seen: &Seen,
+    seen: &DigestCache,
     room: u64,
 ) -> Result<Verdict, Fault>
     requires in_order { HasNamesInOrder task.now }
@@ -172,21 +173,22 @@ fn by_record<F: Folder>(
     ensures may_decide { IfOk result (λ found. MayDecide options task.now found.decision) }
     ensures read { IfOk result (λ found. AreOutputsFor task.now found.decision found.outputs.items) }
     ensures answered { (first : _) → Requests F.device no_change first folder.old
-        → AreSeen F.device first folder.old seen.now
+        → AreCached F.device first folder.old seen.now
         → IfOk result (λ found. WasDecided F.device first folder.new
         options task.now (Some run.now) inputs.now found.decision found.outputs.items) }
-    ensures based { F.device.faithful folder.new → AreSeenIn (F.device.contents folder.old).files seen.now
+    ensures based { F.device.faithful folder.new → AreCachedIn (F.device.contents folder.old).files seen.now
         → prints_read inputs.now ≡ digests_in (trees_of task.now (F.device.contents folder.old).files)
         → IfOk result (λ found. IsBasisIn options task.now (F.device.contents folder.old) found.basis) }
-    ensures observed { F.device.faithful folder.new → AreSeenIn (F.device.contents folder.old).files seen.now
+    ensures observed { F.device.faithful folder.new
+        → AreCachedIn (F.device.contents folder.old).files seen.now
         → IfOk result
         (λ found. AreOutputsObservedFor task.now (F.device.contents folder.old).files found.decision
         found.outputs.items) }
-    ensures none_special { F.device.faithful folder.new → AreSeenIn (F.device.contents folder.old).files
+    ensures none_special { F.device.faithful folder.new → AreCachedIn (F.device.contents folder.old).files
         seen.now
         → OnOk result
         (listing_faults task.now (F.device.contents folder.old) ≡ []) }
-    ensures err { F.device.faithful folder.new → AreSeenIn (F.device.contents folder.old).files seen.now
+    ensures err { F.device.faithful folder.new → AreCachedIn (F.device.contents folder.old).files seen.now
         → IfErr result (CannotRead (F.device.failures folder.old) (F.device.failures folder.new)
         (listing_faults task.now (F.device.contents folder.old))) }
 {
@@ -213,7 +215,7 @@ fn read_outputs_now<F: Folder>(
     alloc: Global,
     folder: &mut F,
     task: &TaskDeclaration,
-    seen: &Seen,
+    seen: &DigestCache,
     mut room: u64,
 ) -> Result<Vec<Reading>, Fault>
     ensures reads { OnlyReads F.device folder.old folder.new }
@@ -221,20 +223,21 @@ fn read_outputs_now<F: Folder>(
     ensures blamed { BlamesOnly (is_output_of task.now) result }
     ensures read { IfOk result (λ found. AreOutputs task.now found.items) }
     ensures answered { (first : _) → Requests F.device no_change first folder.old
-        → AreSeen F.device first folder.old seen.now
+        → AreCached F.device first folder.old seen.now
         → IfOk result (λ found. AreOutputsAnswered F.device
         first folder.new task.now found.items) }
-    ensures prints { F.device.faithful folder.new → AreSeenIn (F.device.contents folder.old).files seen.now
+    ensures prints { F.device.faithful folder.new → AreCachedIn (F.device.contents folder.old).files seen.now
         → IfOk result (λ found. prints_read found.items
         ≡ prints_in (map (recorded_of (F.device.contents folder.old).files) task.now.outputs)) }
-    ensures observed { F.device.faithful folder.new → AreSeenIn (F.device.contents folder.old).files seen.now
+    ensures observed { F.device.faithful folder.new
+        → AreCachedIn (F.device.contents folder.old).files seen.now
         → IfOk result
         (λ found. AreOutputsObserved task.now (F.device.contents folder.old).files found.items) }
-    ensures none_special { F.device.faithful folder.new → AreSeenIn (F.device.contents folder.old).files
+    ensures none_special { F.device.faithful folder.new → AreCachedIn (F.device.contents folder.old).files
         seen.now
         → OnOk result
         (listing_faults task.now (F.device.contents folder.old) ≡ []) }
-    ensures err { F.device.faithful folder.new → AreSeenIn (F.device.contents folder.old).files seen.now
+    ensures err { F.device.faithful folder.new → AreCachedIn (F.device.contents folder.old).files seen.now
         → IfErr result (λ fault.
         (IsGrown fault
         × (is_empty (flat_map (print_faults (F.device.contents folder.old)) task.now.outputs) ≡ false))
@@ -253,7 +256,7 @@ fn list_and_read<F: Folder>(
     alloc: Global,
     folder: &mut F,
     task: &TaskDeclaration,
-    seen: &Seen,
+    seen: &DigestCache,
     mut room: u64,
 ) -> Result<Vec<Reading>, Fault>
     ensures reads { OnlyReads F.device folder.old folder.new }
@@ -261,20 +264,21 @@ fn list_and_read<F: Folder>(
     ensures blamed { BlamesOnly (is_output_of task.now) result }
     ensures read { IfOk result (λ found. AreOutputs task.now found.items) }
     ensures answered { (first : _) → Requests F.device no_change first folder.old
-        → AreSeen F.device first folder.old seen.now
+        → AreCached F.device first folder.old seen.now
         → IfOk result (λ found. AreOutputsAnswered F.device
         first folder.new task.now found.items) }
-    ensures prints { F.device.faithful folder.new → AreSeenIn (F.device.contents folder.old).files seen.now
+    ensures prints { F.device.faithful folder.new → AreCachedIn (F.device.contents folder.old).files seen.now
         → IfOk result (λ found. prints_read found.items
         ≡ prints_in (map (recorded_of (F.device.contents folder.old).files) task.now.outputs)) }
-    ensures observed { F.device.faithful folder.new → AreSeenIn (F.device.contents folder.old).files seen.now
+    ensures observed { F.device.faithful folder.new
+        → AreCachedIn (F.device.contents folder.old).files seen.now
         → IfOk result
         (λ found. AreOutputsObserved task.now (F.device.contents folder.old).files found.items) }
-    ensures none_special { F.device.faithful folder.new → AreSeenIn (F.device.contents folder.old).files
+    ensures none_special { F.device.faithful folder.new → AreCachedIn (F.device.contents folder.old).files
         seen.now
         → OnOk result
         (listing_faults task.now (F.device.contents folder.old) ≡ []) }
-    ensures err { F.device.faithful folder.new → AreSeenIn (F.device.contents folder.old).files seen.now
+    ensures err { F.device.faithful folder.new → AreCachedIn (F.device.contents folder.old).files seen.now
         → IfErr result (λ fault.
         (IsGrown fault
         × (is_empty (flat_map (print_faults (F.device.contents folder.old)) task.now.outputs) ≡ false))

@@ -5,18 +5,18 @@ ghost use Rattle.gb_folder.specs.Calls.{OnlyReads, Requests, no_change};
 ghost use Rattle.gb_folder.specs.Files.{is_empty};
 ghost use Rattle.gb_plan.specs.Task.{is_output_of};
 ghost use Rattle.gb_folder.specs.Faults.{Blames, BlamesOnly};
-ghost use Rattle.gb_tree.specs.Seen.{AreSeen, AreSeenIn};
+ghost use Rattle.gb_tree.specs.DigestCache.{AreCached, AreCachedIn};
 ghost use Rattle.gb_label.specs.Answered.{IsEarlyCaseRead};
 ghost use Rattle.gb_label.specs.Looking.{IsCase, IsHindered, MayBe, gives_no_source, lacks_source};
 ghost use Rattle.gb_label.specs.Reading.{is_input_of};
 
 use crate::inputs::read_inputs;
-use crate::listing::check_outputs;
+use crate::output_listing::check_outputs;
 use gb_folder::folder::Folder;
 use gb_plan::task::{FileProperty, TaskDeclaration};
 use gb_report::fault::Fault;
+use gb_tree::digest_cache::DigestCache;
 use gb_tree::kept::Reading;
-use gb_tree::seen::Seen;
 use std::alloc::Global;
 
 /// What a task is found to be before its record is considered.
@@ -72,7 +72,7 @@ fn look_at_files<F: Folder>(
     alloc: Global,
     folder: &mut F,
     task: &TaskDeclaration,
-    seen: &Seen,
+    seen: &DigestCache,
     mut room: u64,
 ) -> Result<EarlyCase, Fault>
     requires runs { task.now.runs ≡ true }
@@ -82,12 +82,12 @@ fn look_at_files<F: Folder>(
     ensures blamed { BlamesOnly (λ place. is_input_of task.now place || is_output_of task.now place) result }
     ensures may_be { IfOk result (MayBe task.now) }
     ensures answered { (first : _) → Requests F.device no_change first folder.old
-        → AreSeen F.device first folder.old seen.now
+        → AreCached F.device first folder.old seen.now
         → IfOk result
         (IsEarlyCaseRead F.device first folder.new task.now) }
-    ensures case { F.device.faithful folder.new → AreSeenIn (F.device.contents folder.old).files seen.now
+    ensures case { F.device.faithful folder.new → AreCachedIn (F.device.contents folder.old).files seen.now
         → IfOk result (IsCase task.now (F.device.contents folder.old)) }
-    ensures err { F.device.faithful folder.new → AreSeenIn (F.device.contents folder.old).files seen.now
+    ensures err { F.device.faithful folder.new → AreCachedIn (F.device.contents folder.old).files seen.now
         → IfErr result
         (IsHindered task.now (F.device.contents folder.old) (F.device.failures folder.old)
         (F.device.failures folder.new)) }
@@ -108,7 +108,7 @@ pub fn early_case_of<F: Folder>(
     alloc: Global,
     folder: &mut F,
     task: &TaskDeclaration,
-    seen: &Seen,
+    seen: &DigestCache,
     room: u64,
 ) -> Result<EarlyCase, Fault>
     ensures reads { OnlyReads F.device folder.old folder.new }
@@ -117,13 +117,13 @@ pub fn early_case_of<F: Folder>(
     // Over any folder: which of them it may be, and what calls returned for it.
     ensures may_be { IfOk result (MayBe task.now) }
     ensures answered { (first : _) → Requests F.device no_change first folder.old
-        → AreSeen F.device first folder.old seen.now
+        → AreCached F.device first folder.old seen.now
         → IfOk result
         (IsEarlyCaseRead F.device first folder.new task.now) }
     ensures reading { OnErr result ((task.now.runs ≡ true) × (is_empty task.now.actions ≡ false)) }
-    ensures case { F.device.faithful folder.new → AreSeenIn (F.device.contents folder.old).files seen.now
+    ensures case { F.device.faithful folder.new → AreCachedIn (F.device.contents folder.old).files seen.now
         → IfOk result (IsCase task.now (F.device.contents folder.old)) }
-    ensures err { F.device.faithful folder.new → AreSeenIn (F.device.contents folder.old).files seen.now
+    ensures err { F.device.faithful folder.new → AreCachedIn (F.device.contents folder.old).files seen.now
         → IfErr result
         (IsHindered task.now (F.device.contents folder.old) (F.device.failures folder.old)
         (F.device.failures folder.new)) }

@@ -1,6 +1,6 @@
 //! Faults of trees, as a build reports them.
 ghost use Rattle.std.specs.Prelude.{◌≡◌};
-ghost use Rattle.gb_meaning.specs.Tree.{reported_of_tree};
+ghost use Rattle.gb_semantics.specs.Tree.{reported_of_tree};
 
 use gb_report::fault::Fault;
 use gb_tree::fault::TreeFault;

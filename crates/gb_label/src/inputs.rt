@@ -2,13 +2,13 @@
 ghost use Rattle.std.specs.Prelude.{◌≡◌, [], map, IsTrue, IfOk, IfErr, OnOk};
 ghost use Rattle.std.specs.List.{AllByRecursion};
 ghost use Rattle.gb_folder.specs.Calls.{OnlyReads, Requests, no_change};
-ghost use Rattle.gb_meaning.specs.Tree.{input_faults, tree_faults, tree_of, trees_of};
+ghost use Rattle.gb_semantics.specs.Tree.{input_faults, tree_faults, tree_of, trees_of};
 ghost use Rattle.gb_plan.specs.Task.{given_files};
 ghost use Rattle.gb_folder.specs.Faults.{Blames, BlamesOnly, IsOfMachine};
 ghost use Rattle.gb_tree.specs.Prints.{digests_of};
 ghost use Rattle.gb_tree.specs.Property.{is_under_any};
 ghost use Rattle.gb_tree.specs.Reading.{digests_observed};
-ghost use Rattle.gb_tree.specs.Seen.{AreSeen, AreSeenIn};
+ghost use Rattle.gb_tree.specs.DigestCache.{AreCached, AreCachedIn};
 ghost use Rattle.gb_label.specs.ReadingAnswered.{AreInputsAnswered, AreInputsRead, IsInputAnswered};
 ghost use Rattle.gb_label.specs.Reading.{AreInputs, AreInputsObserved, CannotRead, IsPropertyObserved};
 ghost use Rattle.gb_label.specs.Reading.{digests_in, is_input_of, prints_read};
@@ -19,10 +19,10 @@ use gb_action::snapshot::Snapshots;
 use gb_folder::folder::Folder;
 use gb_plan::task::{FileProperty, TaskDeclaration};
 use gb_report::fault::Fault;
+use gb_tree::digest_cache::DigestCache;
 use gb_tree::kept::Reading;
 use gb_tree::prints::Prints;
 use gb_tree::property::reading_of;
-use gb_tree::seen::Seen;
 use std::alloc::Global;
 
 /// The files of one file property.
@@ -30,7 +30,7 @@ fn read_one<F: Folder>(
     alloc: Global,
     folder: &mut F,
     property: &FileProperty,
-    seen: &Seen,
+    seen: &DigestCache,
     room: &mut u64,
 ) -> Result<Reading, Fault>
     ensures reads { OnlyReads F.device folder.old folder.new }
@@ -41,17 +41,18 @@ fn read_one<F: Folder>(
         (λ reading. AllByRecursion (λ observed. IsTrue (is_under_any property.now.roots observed.place))
         reading.1) }
     ensures answered { (first : _) → Requests F.device no_change first folder.old
-        → AreSeen F.device first folder.old seen.now
+        → AreCached F.device first folder.old seen.now
         → IfOk result
         (IsInputAnswered F.device first folder.new property.now) }
-    ensures digests { F.device.faithful folder.new → AreSeenIn (F.device.contents folder.old).files seen.now
+    ensures digests { F.device.faithful folder.new → AreCachedIn (F.device.contents folder.old).files seen.now
         → IfOk result (λ reading. digests_observed reading.1
         ≡ digests_of (tree_of property.now (F.device.contents folder.old).files)) }
-    ensures observed { F.device.faithful folder.new → AreSeenIn (F.device.contents folder.old).files seen.now
+    ensures observed { F.device.faithful folder.new
+        → AreCachedIn (F.device.contents folder.old).files seen.now
         → IfOk result (IsPropertyObserved (F.device.contents folder.old).files property.now) }
-    ensures fit { F.device.faithful folder.new → AreSeenIn (F.device.contents folder.old).files seen.now
+    ensures fit { F.device.faithful folder.new → AreCachedIn (F.device.contents folder.old).files seen.now
         → OnOk result (tree_faults property.now (F.device.contents folder.old) ≡ []) }
-    ensures err { F.device.faithful folder.new → AreSeenIn (F.device.contents folder.old).files seen.now
+    ensures err { F.device.faithful folder.new → AreCachedIn (F.device.contents folder.old).files seen.now
         → IfErr result
         (CannotRead (F.device.failures folder.old) (F.device.failures folder.new) (tree_faults property.now
         (F.device.contents folder.old))) }
@@ -79,7 +80,7 @@ pub(crate) fn read_inputs<F: Folder>(
     alloc: Global,
     folder: &mut F,
     task: &TaskDeclaration,
-    seen: &Seen,
+    seen: &DigestCache,
     room: &mut u64,
 ) -> Result<Vec<Reading>, Fault>
     ensures reads { OnlyReads F.device folder.old folder.new }
@@ -89,18 +90,19 @@ pub(crate) fn read_inputs<F: Folder>(
     // Over any folder: the files are those that calls answered, and so are their digests and bytes,
     // since the state from which files are remembered.
     ensures answered { (first : _) → Requests F.device no_change first folder.old
-        → AreSeen F.device first folder.old seen.now
+        → AreCached F.device first folder.old seen.now
         → IfOk result (λ readings. AreInputsAnswered F.device
         first folder.new task.now readings.items) }
-    ensures prints { F.device.faithful folder.new → AreSeenIn (F.device.contents folder.old).files seen.now
+    ensures prints { F.device.faithful folder.new → AreCachedIn (F.device.contents folder.old).files seen.now
         → IfOk result (λ readings.
         prints_read readings.items ≡ digests_in (trees_of task.now (F.device.contents folder.old).files)) }
-    ensures observed { F.device.faithful folder.new → AreSeenIn (F.device.contents folder.old).files seen.now
+    ensures observed { F.device.faithful folder.new
+        → AreCachedIn (F.device.contents folder.old).files seen.now
         → IfOk result
         (λ readings. AreInputsObserved task.now (F.device.contents folder.old).files readings.items) }
-    ensures fit { F.device.faithful folder.new → AreSeenIn (F.device.contents folder.old).files seen.now
+    ensures fit { F.device.faithful folder.new → AreCachedIn (F.device.contents folder.old).files seen.now
         → OnOk result (input_faults task.now (F.device.contents folder.old) ≡ []) }
-    ensures err { F.device.faithful folder.new → AreSeenIn (F.device.contents folder.old).files seen.now
+    ensures err { F.device.faithful folder.new → AreCachedIn (F.device.contents folder.old).files seen.now
         → IfErr result
         (CannotRead (F.device.failures folder.old) (F.device.failures folder.new) (input_faults task.now
         (F.device.contents folder.old))) }

@@ -10,7 +10,7 @@ ghost use Rattle.gb_folder.specs.Faults.{Blames, BlamesOnly, IsOfMachine};
 ghost use Rattle.gb_tree.specs.Answered.{IsTreeRead, WereObserved};
 ghost use Rattle.gb_tree.specs.Prints.{digests_of};
 ghost use Rattle.gb_tree.specs.Reading.{IsObservedIn, digests_observed, entries_observed};
-ghost use Rattle.gb_tree.specs.Seen.{AreSeen, AreSeenIn};
+ghost use Rattle.gb_tree.specs.DigestCache.{AreCached, AreCachedIn};
 ghost use Rattle.gb_tree.specs.Tree.{contents_at, files_from, is_among};
 ghost use Rattle.gb_label.specs.ReadingAnswered.{AreOutputsAnswered, AreOutputsRead, IsOutputAnswered};
 ghost use Rattle.gb_label.specs.Reading.{AreOutputs, AreOutputsObserved, CannotRead};
@@ -20,15 +20,15 @@ ghost use Rattle.gb_label.specs.Reading.{observed_of};
 
 use crate::completing::complete;
 use crate::fault::reported;
-use gb_action::output::{OutputFiles, OutputSnapshots};
+use gb_action::output_files::{OutputFiles, OutputSnapshots};
 use gb_folder::folder::Folder;
 use gb_history::record::OutputRecord;
 use gb_plan::task::{Output, TaskDeclaration};
 use gb_report::fault::Fault;
+use gb_tree::digest_cache::DigestCache;
 use gb_tree::kept::Reading;
 use gb_tree::output::output_reading;
 use gb_tree::prints::Prints;
-use gb_tree::seen::Seen;
 use std::alloc::{AllocError, Global};
 
 /// The files of one output.
@@ -36,7 +36,7 @@ fn read_one<F: Folder>(
     alloc: Global,
     folder: &mut F,
     output: &Output,
-    seen: &Seen,
+    seen: &DigestCache,
     room: &mut u64,
 ) -> Result<Reading, Fault>
     ensures reads { OnlyReads F.device folder.old folder.new }
@@ -47,17 +47,18 @@ fn read_one<F: Folder>(
         (λ reading. AllByRecursion (λ observed. IsTrue (is_under observed.place output.now.place))
         reading.1) }
     ensures answered { (first : _) → Requests F.device no_change first folder.old
-        → AreSeen F.device first folder.old seen.now
+        → AreCached F.device first folder.old seen.now
         → IfOk result (IsOutputAnswered F.device first folder.new output.now) }
-    ensures digests { F.device.faithful folder.new → AreSeenIn (F.device.contents folder.old).files seen.now
+    ensures digests { F.device.faithful folder.new → AreCachedIn (F.device.contents folder.old).files seen.now
         → IfOk result (λ reading. digests_observed reading.1
         ≡ digests_of (files_from (F.device.contents folder.old).files output.now.place)) }
-    ensures observed { F.device.faithful folder.new → AreSeenIn (F.device.contents folder.old).files seen.now
+    ensures observed { F.device.faithful folder.new
+        → AreCachedIn (F.device.contents folder.old).files seen.now
         → IfOk result
         (IsOutputObserved (F.device.contents folder.old).files output.now) }
-    ensures fit { F.device.faithful folder.new → AreSeenIn (F.device.contents folder.old).files seen.now
+    ensures fit { F.device.faithful folder.new → AreCachedIn (F.device.contents folder.old).files seen.now
         → OnOk result (print_faults (F.device.contents folder.old) output.now ≡ []) }
-    ensures err { F.device.faithful folder.new → AreSeenIn (F.device.contents folder.old).files seen.now
+    ensures err { F.device.faithful folder.new → AreCachedIn (F.device.contents folder.old).files seen.now
         → IfErr result
         (CannotRead (F.device.failures folder.old) (F.device.failures folder.new) (print_faults
         (F.device.contents folder.old) output.now)) }
@@ -75,7 +76,7 @@ pub fn read_outputs<F: Folder>(
     alloc: Global,
     folder: &mut F,
     task: &TaskDeclaration,
-    seen: &Seen,
+    seen: &DigestCache,
     room: &mut u64,
 ) -> Result<Vec<Reading>, Fault>
     ensures reads { OnlyReads F.device folder.old folder.new }
@@ -85,19 +86,20 @@ pub fn read_outputs<F: Folder>(
     // Over any folder: the files are those that calls answered, and so are their digests and bytes,
     // since the state from which files are remembered.
     ensures answered { (first : _) → Requests F.device no_change first folder.old
-        → AreSeen F.device first folder.old seen.now
+        → AreCached F.device first folder.old seen.now
         → IfOk result (λ readings. AreOutputsAnswered F.device
         first folder.new task.now readings.items) }
-    ensures prints { F.device.faithful folder.new → AreSeenIn (F.device.contents folder.old).files seen.now
+    ensures prints { F.device.faithful folder.new → AreCachedIn (F.device.contents folder.old).files seen.now
         → IfOk result (λ readings. prints_read readings.items
         ≡ prints_in (map (recorded_of (F.device.contents folder.old).files) task.now.outputs)) }
-    ensures observed { F.device.faithful folder.new → AreSeenIn (F.device.contents folder.old).files seen.now
+    ensures observed { F.device.faithful folder.new
+        → AreCachedIn (F.device.contents folder.old).files seen.now
         → IfOk result
         (λ readings. AreOutputsObserved task.now (F.device.contents folder.old).files readings.items) }
-    ensures fit { F.device.faithful folder.new → AreSeenIn (F.device.contents folder.old).files seen.now
+    ensures fit { F.device.faithful folder.new → AreCachedIn (F.device.contents folder.old).files seen.now
         → OnOk result (flat_map (print_faults
         (F.device.contents folder.old)) task.now.outputs ≡ []) }
-    ensures err { F.device.faithful folder.new → AreSeenIn (F.device.contents folder.old).files seen.now
+    ensures err { F.device.faithful folder.new → AreCachedIn (F.device.contents folder.old).files seen.now
         → IfErr result (CannotRead (F.device.failures folder.old) (F.device.failures folder.new)
         (flat_map (print_faults (F.device.contents folder.old)) task.now.outputs)) }
 {

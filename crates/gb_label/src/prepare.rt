@@ -4,7 +4,7 @@ ghost use Rattle.gb_folder.specs.Calls.{OnlyReads, Requests, no_change};
 ghost use Rattle.gb_folder.specs.Files.{is_empty};
 ghost use Rattle.gb_plan.specs.Task.{is_output_of};
 ghost use Rattle.gb_folder.specs.Faults.{Blames, BlamesOnly};
-ghost use Rattle.gb_tree.specs.Seen.{AreSeen, AreSeenIn};
+ghost use Rattle.gb_tree.specs.DigestCache.{AreCached, AreCachedIn};
 ghost use Rattle.gb_label.specs.Deciding.{HasNamesInOrder};
 ghost use Rattle.gb_label.specs.Looking.{IsHindered};
 ghost use Rattle.gb_label.specs.Answered.{WasPrepared};
@@ -20,8 +20,8 @@ use gb_history::record::Record;
 use gb_plan::task::{FileProperty, TaskDeclaration};
 use gb_report::fault::Fault;
 use gb_report::report::Options;
+use gb_tree::digest_cache::DigestCache;
 use gb_tree::kept::Reading;
-use gb_tree::seen::Seen;
 use std::alloc::Global;
 
 /// The outcome of a task that starts.
@@ -61,7 +61,7 @@ pub fn prepare<F: Folder>(
     task: &TaskDeclaration,
     options: Options,
     old: Option<&Record>,
-    seen: &Seen,
+    seen: &DigestCache,
     follows: bool,
 ) -> Result<Prepared, Fault>
     requires in_order { HasNamesInOrder task.now }
@@ -80,17 +80,19 @@ pub fn prepare<F: Folder>(
     // Over any folder it is what calls answered, since the state from which files are remembered;
     // and what is up to date was found so on exactly this.
     ensures answered { (first : _) → Requests F.device no_change first folder.old
-        → AreSeen F.device first folder.old seen.now
+        → AreCached F.device first folder.old seen.now
         → IfOk result (WasPrepared F.device first folder.new options
         task.now (option_copied old.entry)) }
-    ensures prepared { F.device.faithful folder.new → AreSeenIn (F.device.contents folder.old).files seen.now
+    ensures prepared { F.device.faithful folder.new
+        → AreCachedIn (F.device.contents folder.old).files seen.now
         → IfOk result
         (IsPrepared options task.now (F.device.contents folder.old) (option_copied old.entry)) }
     // Where contents are known and the remembered digests are right: the files that a run is based on, or
     // the outputs of a task that is up to date, are in the folder as they were read.
-    ensures observed { F.device.faithful folder.new → AreSeenIn (F.device.contents folder.old).files seen.now
+    ensures observed { F.device.faithful folder.new
+        → AreCachedIn (F.device.contents folder.old).files seen.now
         → IfOk result (IsObserved task.now (F.device.contents folder.old).files) }
-    ensures err { F.device.faithful folder.new → AreSeenIn (F.device.contents folder.old).files seen.now
+    ensures err { F.device.faithful folder.new → AreCachedIn (F.device.contents folder.old).files seen.now
         → IfErr result
         (IsHindered task.now (F.device.contents folder.old) (F.device.failures folder.old)
         (F.device.failures folder.new)) }

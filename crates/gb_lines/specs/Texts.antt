@@ -5,8 +5,8 @@ use Rattle.std.specs.List.{ends_with, flat_map}
 use Rattle.gb_folder.specs.Files.{Files, Place, Bytes, file_at, is_empty, places_under}
 use Rattle.gb_answer.specs.Answer.{not_built_text, refusal_text}
 use Rattle.gb_report.specs.Report.{line, report_text}
-use Rattle.gb_meaning.specs.declared.events.Answer.{Answer}
-use Rattle.gb_meaning.specs.declared.events.Answer.TheVariants as answers
+use Rattle.gb_semantics.specs.declared.events.Answer.{Answer}
+use Rattle.gb_semantics.specs.declared.events.Answer.TheVariants as answers
 
 -- the output for an answer
 abbrev pub answer_text : Answer → List ℕ

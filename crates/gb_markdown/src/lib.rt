@@ -14,6 +14,9 @@
 //! begins an element is ended in its order, and that a page takes time in proportion to its length.
 //!
 //! `docs/SITE.md#the-markdown-that-it-reads` says what it reads.
+//!
+//! Out of scope, on purpose: HTML and entities, headings underlined by `-` or `=`, tabs as
+//! indentation, aligned cells, and more than 16 quotes or items in one another.
 #![tactic(auto)]
 
 pub mod address;

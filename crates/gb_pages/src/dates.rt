@@ -7,7 +7,7 @@ ghost use Rattle.gb_pages.specs.Dates.{message_at, two, with_entry};
 ghost use Rattle.gb_with.specs.TreeKinds.{IsFailure};
 
 use crate::front_matter::{first_line, front_matter};
-use crate::paths::as_path;
+use crate::page_paths::as_path;
 use bstr::ByteSlice;
 use gb_action::files::Files;
 use gb_action::reply::ActionFault;

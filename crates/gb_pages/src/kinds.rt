@@ -1,7 +1,7 @@
 //! The kinds of actions that make pages.
 
 use crate::front_matter::body;
-use crate::paths::{front, page_path};
+use crate::page_paths::{front, page_path};
 use gb_action::shape::ArgList;
 use gb_action::values::Arguments;
 use gb_core::bytes::Bytes;

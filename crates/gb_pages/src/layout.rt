@@ -11,7 +11,7 @@ ghost use Rattle.gb_with.specs.TreeKinds.{IsFailure};
 use crate::checked::line_of as line_at;
 use crate::contents::contents;
 use crate::front_matter::{front_matter, title_of, value_of};
-use crate::paths::stem;
+use crate::page_paths::stem;
 use bstr::ByteSlice;
 use gb_action::reply::ActionFault;
 use gb_core::bytes::Bytes;

@@ -13,7 +13,7 @@ ghost use Rattle.percent_encoding.specs.Percent.{percent_decode as decoded};
 
 use crate::front_matter::up_to;
 use crate::layout::{line_of, shown};
-use crate::paths::as_path;
+use crate::page_paths::as_path;
 use crate::template::has_token;
 use bstr::ByteSlice;
 use gb_action::files::Files;

@@ -11,7 +11,7 @@ ghost use Rattle.gb_with.specs.TreeKinds.{IsFailure};
 
 use crate::front_matter::title_of;
 use crate::layout::{Page, laid_out_page, root_of};
-use crate::paths::{page_path, stem};
+use crate::page_paths::{page_path, stem};
 use crate::template::{failed, layout_name};
 use gb_action::files::Files;
 use gb_action::reply::ActionFault;

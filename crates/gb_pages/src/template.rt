@@ -5,7 +5,7 @@ ghost use Rattle.gb_action.specs.Files.{Tree};
 ghost use Rattle.gb_pages.specs.Paths.{token, token_name, has_token, in_layout, all_pages, laid_out};
 ghost use Rattle.gb_with.specs.TreeKinds.{IsFailure};
 
-use crate::paths::{page_path, stem};
+use crate::page_paths::{page_path, stem};
 use bstr::ByteSlice;
 use gb_action::reply::ActionFault;
 use gb_action::shape::{Arg, ArgList};

@@ -1,6 +1,6 @@
 //! Whether a task is executed, decided by its record.
+use crate::record_texts::{ARGUMENT, FILE, FIRST, OUTPUT, VALUE, VERSION};
 use crate::steps::is_answered;
-use crate::texts::{ARGUMENT, FILE, FIRST, OUTPUT, VALUE, VERSION};
 use gb_core::name::Name;
 use gb_core::path::TaskPath;
 use gb_history::decide::{Decision, Present, decide};

@@ -2,7 +2,7 @@
 use crate::steps::{cut, is_answered};
 use gb_core::place::Place;
 use gb_disk::disk::DiskFolder;
-use gb_disk::names::places_in;
+use gb_disk::entries::places_in;
 use gb_folder::faulty::{FaultMode, FaultyFolder};
 use gb_folder::folder::{Folder, FolderFault};
 use gb_folder::memory::MemoryFolder;

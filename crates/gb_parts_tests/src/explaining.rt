@@ -1,7 +1,7 @@
 //! Why a task is executed, by its record.
 use crate::deciding::present;
+use crate::record_texts::{ARGUMENT, FILE, FIRST, OUTPUT, VALUE, VERSION};
 use crate::steps::is_answered;
-use crate::texts::{ARGUMENT, FILE, FIRST, OUTPUT, VALUE, VERSION};
 use gb_core::path::TaskPath;
 use gb_history::record::Record;
 use gb_history::record_text::read_record;

@@ -1,11 +1,11 @@
 //! The results of histories, and what is read from texts.
 ghost use Rattle.std.specs.Prelude.{◌<◌, length};
 
-use crate::sample::record;
-use crate::steps::is_answered;
-use crate::texts::{
+use crate::record_texts::{
     BOTH, BOTH_FIRST, NO_HISTORIES, NO_RECORDS, NONE, NONE_FIRST, STORED, STORED_FIRST, THREE,
 };
+use crate::sample::record;
+use crate::steps::is_answered;
 use gb_core::path::TaskPath;
 use gb_history::fault::RecordFault;
 use gb_history::history::History;

@@ -5,13 +5,13 @@
 //! The calls and the results are in tables, so that no assertion is made while values are alive.
 ghost use Rattle.std.specs.Prelude.{◌≡◌, ℕ, List, ◌∷◌, [], map, true, IfOk};
 ghost use Rattle.gb_action.specs.Shapes.{source, target};
-ghost use Rattle.gb_action.specs.declared.output.Form.{Form};
+ghost use Rattle.gb_action.specs.declared.output_files.Form.{Form};
 ghost use Rattle.gb_kinds.specs.Builtin.{builtin_shape, Implements};
 
 use crate::steps::cut;
 use gb_action::change::{Change, ChangeList, ChangeLists, InputChanges};
 use gb_action::files::Files;
-use gb_action::output::{Form, OutputFiles, OutputSnapshots};
+use gb_action::output_files::{Form, OutputFiles, OutputSnapshots};
 use gb_action::reply::{ActionFault, Lines, Removals, Reply, Writes};
 use gb_action::request::Request;
 use gb_action::run::{accepts, incremental, run_action};
@@ -23,14 +23,16 @@ use gb_core::place::{PlaceFault, RelPath};
 use gb_core::text::Text;
 use gb_core::value::Value;
 use gb_kinds::builtin::{Builtin, Run, StoredAction};
-use gb_kinds::files::{add_file, concat, copy_files, keep_lines, replace_tokens, sums, word_index};
+use gb_kinds::file_kinds::{
+    add_file, concat, copy_files, keep_lines, replace_tokens, sums, word_index,
+};
 use gb_kinds::known_names::{output_name, source_name};
 use gb_kinds::shapes::{
     ADD_FILE, CONCAT, COPY_FILES, FAIL, KEEP_LINES, REPLACE_TOKENS, SUMS, WORD_INDEX, WRITE_TEXT,
     add_file_shape, concat_shape, copy_files_shape, fail_shape, keep_lines_shape,
     replace_tokens_shape, sums_shape, word_index_shape, write_text_shape,
 };
-use gb_kinds::texts::{fail, write_text};
+use gb_kinds::text_kinds::{fail, write_text};
 use std::alloc::{AllocError, Global};
 use std::str;
 use std::test::Fail;

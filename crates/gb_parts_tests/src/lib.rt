@@ -2,10 +2,12 @@
 //! files and their digests, records, and reports. They are in a crate separate from the crates that
 //! they test, so that the proofs of these are not run once more, and in one crate, because each
 //! crate costs the gate the time to read it.
+//!
+//! A test walks a table: a row is a small input and its expected result. Set aside: a function for
+//! each case, since each function costs the gate; and tests of what a contract says. Arguments,
+//! values of scripts, tasks and plans are tested by the replays of `bench/replays`.
 #![tactic(auto)]
 
-#[cfg(test)]
-mod actions;
 #[cfg(test)]
 mod deciding;
 #[cfg(test)]
@@ -21,6 +23,10 @@ mod histories;
 #[cfg(test)]
 mod kinds;
 #[cfg(test)]
+mod outside_vectors;
+#[cfg(test)]
+mod record_texts;
+#[cfg(test)]
 mod reports;
 #[cfg(test)]
 mod sample;
@@ -28,8 +34,6 @@ mod sample;
 mod scripts;
 #[cfg(test)]
 mod steps;
-#[cfg(test)]
-mod texts;
 #[cfg(test)]
 mod trees;
 #[cfg(test)]

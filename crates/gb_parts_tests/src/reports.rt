@@ -5,7 +5,7 @@
 use gb_core::name::{Name, NameFault};
 use gb_core::path::TaskPath;
 use gb_core::place::{Place, PlaceFault, RelPath};
-use gb_core::tasks::TaskList;
+use gb_core::task_paths::TaskList;
 use gb_core::text::{Text, Texts};
 use gb_report::fault::{Fault, Limited};
 use gb_report::render::{render, render_fault};

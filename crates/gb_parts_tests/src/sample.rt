@@ -1,5 +1,5 @@
 //! Records for tests.
-use gb_action::output::Form;
+use gb_action::output_files::Form;
 use gb_action::values::{Arguments, NamedValues};
 use gb_core::name::Name;
 use gb_core::place::{Place, RelPath};

@@ -2,9 +2,9 @@
 //!
 //! Each case is a function that returns whether it holds, so that no assertion is made while values
 //! are alive.
-use gb_script::expression::{Expression, Source};
 use gb_script::fault::ScriptFault;
 use gb_script::script::{Clause, Statement};
+use gb_script::script_expression::{Expression, Source};
 use gb_script::{StatementLines, read_script, read_script_lines, read_settings};
 use std::alloc::{AllocError, Global};
 use std::test::Fail;

@@ -11,12 +11,12 @@ use gb_folder::memory::MemoryFolder;
 use gb_tree::ahead::read_ahead;
 use gb_tree::changes::compare;
 use gb_tree::digest::prints;
+use gb_tree::digest_cache::DigestCache;
 use gb_tree::fault::TreeFault;
 use gb_tree::output::{output_prints, output_reading, outputs};
 use gb_tree::pattern::Pattern;
 use gb_tree::prints::Prints;
 use gb_tree::property::{Naming, prints_of, snapshot};
-use gb_tree::seen::Seen;
 use std::alloc::{AllocError, Global};
 use std::test::Fail;
 
@@ -147,7 +147,7 @@ fn prints_read<F: Folder>(
     folder: &mut F,
     name: &Name,
     place: &Place,
-    seen: &Seen,
+    seen: &DigestCache,
 ) -> Result<Prints, TreeFault> {
     let mut room = 65_600;
     let reading = output_reading(alloc, folder, name, place, seen, &mut room)?;
@@ -164,11 +164,11 @@ fn prints_asked<F: Folder>(
     match (word, asked.places.as_slice()) {
         ("output-digests", [place]) => output_prints(alloc, folder, &asked.name, place),
         ("read-digests", [place]) => {
-            let seen = Seen::new(alloc);
+            let seen = DigestCache::new(alloc);
             prints_read(alloc, folder, &asked.name, place, &seen)
         }
         ("ahead-digests", [place, _]) => {
-            let mut seen = Seen::new(alloc);
+            let mut seen = DigestCache::new(alloc);
             read_ahead(alloc, folder, &asked.places[1..], &mut seen);
             prints_read(alloc, folder, &asked.name, place, &seen)
         }

@@ -8,6 +8,10 @@
 //! is taken for markup: no hidden character is shown, DOT reads a quoted name back whole
 //! (`DotReadsBack`), a name in XML has no quote and neither `<` nor `>` (`XmlHasNoMarkup`), and in
 //! Mermaid nothing of HTML or Markdown (`MermaidHasNoSpecial`).
+//!
+//! Out of scope: what the nodes stand for (`gb_ask_command` makes them of a plan), and a good
+//! layout: the boxes of a picture are in columns by the longest chain that leads to each, and
+//! curves may cross. DOT and Mermaid leave the layout to other tools.
 #![tactic(auto)]
 
 mod columns;

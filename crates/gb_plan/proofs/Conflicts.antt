@@ -132,9 +132,9 @@ abbrev pub is_first_of : List Conflict → Conflict → Bool
 is_first_of listed conflict = list_all (λ other. not (is_before other conflict)) listed
 
 -- where all are listed, one that none of the list comes before is the least
-least_listed : (Meets : Conflict → Type 0) (listed : List Conflict) → ((other : Conflict) → Meets other → In other listed) → (conflict : Conflict) → Meets conflict
-    → is_first_of listed conflict ≡ true → IsLeastConflict Meets conflict
-least_listed Meets listed all conflict meets none = record {
+least_listed : (IsConflict : Conflict → Type 0) (listed : List Conflict) → ((other : Conflict) → IsConflict other → In other listed) → (conflict : Conflict) → IsConflict conflict
+    → is_first_of listed conflict ≡ true → IsLeastConflict IsConflict conflict
+least_listed IsConflict listed all conflict meets none = record {
   meets = meets;
   least = λ other h. no_longer (is_before other conflict) (at_in (λ (m : Conflict). not (is_before m conflict) ≡ true) listed other (each_of_all (λ m. not (is_before m conflict)) listed none) (all other h));
 }

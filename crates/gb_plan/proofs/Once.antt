@@ -92,8 +92,8 @@ neither_before x y r s e f =
     cases Equal e f = (refl, e, f)
     cases Greater e f = not_false f
 
-pub conflicts_are_one : (Meets : Conflict → Type 0) (a b : Conflict) → IsLeastConflict Meets a → IsLeastConflict Meets b → a ≡ b
-conflicts_are_one Meets a b of_a of_b =
+pub conflicts_are_one : (IsConflict : Conflict → Type 0) (a b : Conflict) → IsLeastConflict IsConflict a → IsLeastConflict IsConflict b → a ≡ b
+conflicts_are_one IsConflict a b of_a of_b =
     let first = neither_before a.task b.task _ _ (of_b.least a of_a.meets) (of_a.least b of_b.meets) in
     let second = neither_before a.other b.other _ _ first.1 first.2 in
     let third = neither_less a.place b.place second.1 second.2 in

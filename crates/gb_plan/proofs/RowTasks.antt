@@ -2,7 +2,7 @@
 use Rattle.std.specs.Prelude.{ℕ, true, false, List, [], ◌∷◌, Ok, codes}
 use Rattle.gb_core.specs.declared.value.Value.{Value}
 use Rattle.gb_core.specs.declared.value.Value.TheVariants.{Text}
-use Rattle.gb_action.specs.declared.output.Form.TheVariants as forms
+use Rattle.gb_action.specs.declared.output_files.Form.TheVariants as forms
 use Rattle.gb_tree.specs.declared.property.Naming.TheVariants.{Relative}
 use Rattle.gb_folder.specs.Files.{Place}
 use Rattle.gb_plan.specs.declared.plan.Planned.{Planned}

@@ -120,9 +120,9 @@ is_before a b =
     (ordering_then (byte_order a.other b.other) (byte_order a.place b.place)))
 
 -- it is one of these conflicts, and none of them comes before it
-pub record IsLeastConflict (Meets : Conflict → Type 0) (conflict : Conflict) : Type 0 where
-  pub meets : Meets conflict
-  pub least : (other : Conflict) → Meets other → is_before other conflict ≡ false
+pub record IsLeastConflict (IsConflict : Conflict → Type 0) (conflict : Conflict) : Type 0 where
+  pub meets : IsConflict conflict
+  pub least : (other : Conflict) → IsConflict other → is_before other conflict ≡ false
 
 -- output places, each with the path of its task
 abbrev pub outputs_of : Plan → List (Path × Place)

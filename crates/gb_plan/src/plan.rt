@@ -7,7 +7,7 @@ ghost use Rattle.gb_plan.specs.Plans.{IsDeclarationIn, is_selected_in, needs_at}
 
 use crate::task::TaskDeclaration;
 use gb_core::path::TaskPath;
-use gb_core::tasks::TaskPaths;
+use gb_core::task_paths::TaskPaths;
 use std::alloc::{AllocError, Global};
 use std::marker::Model;
 

@@ -1,12 +1,12 @@
 //! What a task declares, with all its expressions evaluated.
 use gb_action::list::ActionList;
-use gb_action::output::Form;
+use gb_action::output_files::Form;
 use gb_action::values::{Arguments, NamedValues};
 use gb_core::name::Name;
 use gb_core::path::TaskPath;
 use gb_core::place::Place;
 use gb_core::row::Row;
-use gb_core::tasks::TaskPaths;
+use gb_core::task_paths::TaskPaths;
 use gb_tree::pattern::Pattern;
 use gb_tree::property::Naming;
 
@@ -27,11 +27,11 @@ pub struct FileProperty {
     pub skip_when_empty: bool,
     /// How a file is named in it.
     pub naming: Naming,
-    /// The places at which it looks for files, at least one.
+    /// The places at and under which its files are, at least one.
     pub roots: Places,
-    /// The patterns that let files in; where there is none, all are in.
+    /// The patterns that include files; if there is none, all files are included.
     pub include: Patterns,
-    /// The patterns that keep files out, also where another pattern lets them in.
+    /// The patterns that exclude files, also those that another pattern includes.
     pub exclude: Patterns,
 }
 
@@ -78,11 +78,11 @@ pub struct TaskDeclaration {
     pub files: FileProperties,
     /// What it makes.
     pub outputs: Outputs,
-    /// In the order in which they run.
+    /// The actions, in the order in which they run.
     pub actions: ActionList<Action>,
     /// The tasks that it depends on, and those that produce what it reads.
     pub needs: TaskPaths,
-    /// Tasks that run before it where they are in the plan too.
+    /// Tasks that run before it if they are in the plan too.
     pub must_run_after: TaskPaths,
     /// Tasks that run after it, and are in each plan that it is in.
     pub finalizers: TaskPaths,

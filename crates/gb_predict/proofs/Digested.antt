@@ -14,11 +14,11 @@ use Rattle.gb_label.specs.Reading.{recorded_of}
 use Rattle.gb_reason.specs.Real.{ChangesAreReasons}
 use Rattle.gb_reason.specs.Reasons.{change_reasons}
 use Rattle.gb_reason.specs.declared.reason.Reason.{Reason}
-use Rattle.gb_meaning.specs.Kinds.{Kinds}
-use Rattle.gb_meaning.specs.Label.{early_case}
-use Rattle.gb_meaning.specs.Memory.{Memory, World, output_files}
-use Rattle.gb_meaning.specs.TrueRecord.{outside}
-use Rattle.gb_meaning.specs.Execution.{Rules}
+use Rattle.gb_semantics.specs.Kinds.{Kinds}
+use Rattle.gb_semantics.specs.Label.{early_case}
+use Rattle.gb_semantics.specs.Memory.{Memory, World, output_files}
+use Rattle.gb_semantics.specs.TrueRecord.{outside}
+use Rattle.gb_semantics.specs.Execution.{Rules}
 use Rattle.gb_plan.proofs.Tests.{not_true}
 use Rattle.gb_plan.specs.Graph.{order}
 use Rattle.gb_plan.specs.Task.{is_output_of}

@@ -5,12 +5,12 @@ use Rattle.std.proofs.Common.{refl, sym, ap, ap₂, subst, ◌∙◌, inl, inr, 
 use Rattle.gb_action.specs.Changes.{Changes, changes_between}
 use Rattle.gb_action.specs.Files.{Tree, Trees, tree_at}
 use Rattle.gb_folder.specs.Files.{Contents, Files, is_empty}
-use Rattle.gb_meaning.specs.Kinds.{Kinds}
-use Rattle.gb_meaning.specs.Label.{AreChanges, CannotRead, Early, EndsWith, HasNoActions, HasNoSource, IsCurrent, IsIncremental, IsOutcomeOf, IsOutcomeAt, Moment, Skips, changes_from, early_case, has_one_writer, run_of, some_outcome}
-use Rattle.gb_meaning.specs.Memory.{World, entry_of, output_files, recalled}
-use Rattle.gb_meaning.specs.Tree.{has_no_source, input_faults, listing_faults, tree_of, trees_of}
-use Rattle.gb_meaning.specs.Execution.{Prints, lines_of}
-use Rattle.gb_meaning.proofs.Common.{some_same}
+use Rattle.gb_semantics.specs.Kinds.{Kinds}
+use Rattle.gb_semantics.specs.Label.{AreChanges, CannotRead, Early, EndsWith, HasNoActions, HasNoSource, IsCurrent, IsIncremental, IsOutcomeOf, IsOutcomeAt, Moment, Skips, changes_from, early_case, has_one_writer, run_of, some_outcome}
+use Rattle.gb_semantics.specs.Memory.{World, entry_of, output_files, recalled}
+use Rattle.gb_semantics.specs.Tree.{has_no_source, input_faults, listing_faults, tree_of, trees_of}
+use Rattle.gb_semantics.specs.Execution.{Prints, lines_of}
+use Rattle.gb_semantics.proofs.Common.{some_same}
 use Rattle.gb_plan.specs.Graph.{Plan, needs_in}
 use Rattle.gb_plan.specs.declared.task.Action.{Action}
 use Rattle.gb_plan.specs.declared.task.FileProperty.{FileProperty}

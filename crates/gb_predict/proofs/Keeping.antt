@@ -6,16 +6,16 @@ use Rattle.std.proofs.lemmas.Grind.{flat_map-append}
 use Rattle.std.proofs.lemmas.List.{map-append}
 use Rattle.gb_core.specs.Place.{is_under}
 use Rattle.gb_folder.specs.Files.{Bytes, DiffersOnlyAt, Files, Place, files_where, is_empty}
-use Rattle.gb_meaning.specs.Every.{always}
-use Rattle.gb_meaning.specs.Kinds.{Kinds}
-use Rattle.gb_meaning.specs.Label.{IsOutcomeOf, Moment}
-use Rattle.gb_meaning.specs.Memory.{Entry, World, entry_of, folder_contents, forget, output_files, recalled, remember}
-use Rattle.gb_meaning.specs.Made.{with_outputs}
-use Rattle.gb_meaning.specs.Tree.{input_faults, listing_faults, trees_of}
-use Rattle.gb_meaning.specs.Execution.{IsOfMachine, Leaves, Prints, Rules, WorldState, StartedExecution, Execution, Executions, first_moment, memory_after, moment_after}
-use Rattle.gb_meaning.proofs.Common.{none_some}
-use Rattle.gb_meaning.proofs.Lemmas.Reading.{AllUnobserved, Unobserved, input_faults_same, trees_same}
-use Rattle.gb_meaning.proofs.Lemmas.Sound.{unobserved_of}
+use Rattle.gb_semantics.specs.Every.{always}
+use Rattle.gb_semantics.specs.Kinds.{Kinds}
+use Rattle.gb_semantics.specs.Label.{IsOutcomeOf, Moment}
+use Rattle.gb_semantics.specs.Memory.{Entry, World, entry_of, folder_contents, forget, output_files, recalled, remember}
+use Rattle.gb_semantics.specs.Made.{with_outputs}
+use Rattle.gb_semantics.specs.Tree.{input_faults, listing_faults, trees_of}
+use Rattle.gb_semantics.specs.Execution.{IsOfMachine, Leaves, Prints, Rules, WorldState, StartedExecution, Execution, Executions, first_moment, memory_after, moment_after}
+use Rattle.gb_semantics.proofs.Common.{none_some}
+use Rattle.gb_semantics.proofs.Lemmas.Reading.{AllUnobserved, Unobserved, input_faults_same, trees_same}
+use Rattle.gb_semantics.proofs.Lemmas.Sound.{unobserved_of}
 use Rattle.gb_plan.specs.Graph.{IsSound, no_repeats, order, reads_output_of, some_overlap}
 use Rattle.gb_plan.specs.Task.{Path, has_path, is_output_of, output_places}
 use Rattle.gb_plan.specs.declared.plan.Planned.{Planned}

@@ -10,7 +10,7 @@ use Rattle.gb_graph.specs.Places.{AreSamePlaces, place_at, places_from, with_pla
 use Rattle.gb_graph.specs.declared.places.TaskPlace.{TaskPlace}
 use Rattle.gb_graph.proofs.Bridges.{At, any_in, at_get, at_in, at_so, in_at, into_row, of_row, some_in}
 use Rattle.gb_graph.proofs.Numbers.{in_back, in_either, in_prefix, in_of, of_in}
-use Rattle.gb_meaning.proofs.Common.{none_some, some_same}
+use Rattle.gb_semantics.proofs.Common.{none_some, some_same}
 use Rattle.gb_plan.proofs.Same.{In}
 use Rattle.gb_plan.proofs.Tests.{left_of, not_true, right_of}
 use Rattle.gb_plan.specs.Graph.{reads_output_of}

@@ -15,11 +15,11 @@ use Rattle.gb_label.specs.Reading.{CannotRead, recorded_of}
 use Rattle.gb_label.specs.declared.deciding.Basis.{Basis}
 use Rattle.gb_label.specs.declared.deciding.Basis.TheVariants as bases
 use Rattle.gb_label.specs.declared.deciding.FullReason.TheVariants as causes
-use Rattle.gb_meaning.specs.Kinds.{Kinds}
-use Rattle.gb_meaning.specs.Label.{HasNoSource, early_case}
-use Rattle.gb_meaning.specs.Memory.{output_files}
-use Rattle.gb_meaning.specs.Tree.{has_no_source, input_faults, listing_faults}
-use Rattle.gb_meaning.proofs.Common.{none_some}
+use Rattle.gb_semantics.specs.Kinds.{Kinds}
+use Rattle.gb_semantics.specs.Label.{HasNoSource, early_case}
+use Rattle.gb_semantics.specs.Memory.{output_files}
+use Rattle.gb_semantics.specs.Tree.{has_no_source, input_faults, listing_faults}
+use Rattle.gb_semantics.proofs.Common.{none_some}
 use Rattle.gb_plan.specs.declared.task.TaskDeclaration.{TaskDeclaration as Task}
 use Rattle.gb_reason.specs.Reasons.{differences, reasons_of}
 use Rattle.gb_reason.specs.declared.reason.Reason.{Reason}

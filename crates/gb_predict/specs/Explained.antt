@@ -8,7 +8,7 @@ use Rattle.gb_history.specs.declared.decide.Present.{Present}
 use Rattle.gb_label.specs.declared.deciding.Basis.{Basis}
 use Rattle.gb_label.specs.declared.deciding.Basis.TheVariants as bases
 use Rattle.gb_label.specs.declared.deciding.FullReason.TheVariants as causes
-use Rattle.gb_meaning.specs.Kinds.{Kinds}
+use Rattle.gb_semantics.specs.Kinds.{Kinds}
 use Rattle.gb_plan.specs.declared.task.TaskDeclaration.{TaskDeclaration as Task}
 use Rattle.gb_reason.specs.Reasons.{reasons_of}
 use Rattle.gb_reason.specs.declared.reason.Reason.{Reason}

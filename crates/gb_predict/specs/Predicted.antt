@@ -4,13 +4,13 @@ use Rattle.std.specs.List.{AllByRecursion, AllZip}
 use Rattle.gb_core.specs.Lists.{first_of}
 use Rattle.gb_folder.specs.Files.{Bytes, Contents, is_empty}
 use Rattle.gb_history.specs.Record.{Record}
-use Rattle.gb_meaning.specs.Every.{always}
-use Rattle.gb_meaning.specs.Kinds.{Kinds}
-use Rattle.gb_meaning.specs.Label.{CannotRead, HasNoActions, HasNoSource, IsCurrent, IsIncremental, Moment}
-use Rattle.gb_meaning.specs.Label.{Skips, changes_from, early_case}
-use Rattle.gb_meaning.specs.Memory.{Memory, World, output_files}
-use Rattle.gb_meaning.specs.TrueRecord.{outside}
-use Rattle.gb_meaning.specs.Execution.{IsOfMachine, Prints, Rules, WorldState, Executions, first_moment}
+use Rattle.gb_semantics.specs.Every.{always}
+use Rattle.gb_semantics.specs.Kinds.{Kinds}
+use Rattle.gb_semantics.specs.Label.{CannotRead, HasNoActions, HasNoSource, IsCurrent, IsIncremental, Moment}
+use Rattle.gb_semantics.specs.Label.{Skips, changes_from, early_case}
+use Rattle.gb_semantics.specs.Memory.{Memory, World, output_files}
+use Rattle.gb_semantics.specs.TrueRecord.{outside}
+use Rattle.gb_semantics.specs.Execution.{IsOfMachine, Prints, Rules, WorldState, Executions, first_moment}
 use Rattle.gb_plan.specs.Graph.{IsSound, no_repeats, order}
 use Rattle.gb_plan.specs.declared.plan.Planned.{Planned}
 use Rattle.gb_plan.specs.declared.task.TaskDeclaration.{TaskDeclaration as Task}

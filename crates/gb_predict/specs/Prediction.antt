@@ -10,10 +10,10 @@ use Rattle.gb_history.specs.declared.decide.Decision.TheVariants as decisions
 use Rattle.gb_history.specs.declared.decide.Present.{Present}
 use Rattle.gb_label.specs.Deciding.{IsDecided, IsPresentOf}
 use Rattle.gb_label.specs.Looking.{IsHindered}
-use Rattle.gb_meaning.specs.Kinds.{Kinds}
-use Rattle.gb_meaning.specs.Label.{HasNoActions, HasNoSource, Skips, early_case}
-use Rattle.gb_meaning.specs.Memory.{output_files}
-use Rattle.gb_meaning.specs.Tree.{trees_of}
+use Rattle.gb_semantics.specs.Kinds.{Kinds}
+use Rattle.gb_semantics.specs.Label.{HasNoActions, HasNoSource, Skips, early_case}
+use Rattle.gb_semantics.specs.Memory.{output_files}
+use Rattle.gb_semantics.specs.Tree.{trees_of}
 use Rattle.gb_plan.specs.Graph.{Plan}
 use Rattle.gb_plan.specs.declared.task.TaskDeclaration.{TaskDeclaration as Task}
 use Rattle.gb_reason.specs.Reasons.{reasons_of}

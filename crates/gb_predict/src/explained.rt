@@ -4,8 +4,8 @@ ghost use Rattle.gb_predict.specs.Explained.{IsCompared, IsExplained, why_withou
 ghost use Rattle.gb_predict.specs.Prediction.{IsReasoned, RunsFor};
 ghost use Rattle.gb_history.specs.Decision.{Decides};
 ghost use Rattle.gb_label.specs.Deciding.{FollowsFrom};
-ghost use Rattle.gb_meaning.specs.Headline.{Agrees};
-ghost use Rattle.gb_meaning.specs.Kinds.{Kinds};
+ghost use Rattle.gb_semantics.specs.Headline.{Agrees};
+ghost use Rattle.gb_semantics.specs.Kinds.{Kinds};
 ghost use Rattle.gb_plan.specs.Ready.{IsReady};
 ghost use Rattle.gb_report.specs.declared.report.Options.{Options};
 

@@ -8,7 +8,7 @@ use gb_task::case_laws::{
 
 /// The rules of a build.
 pub trait Build {
-    ghost use Rattle.gb_meaning.specs.Execution.{Rules};
+    ghost use Rattle.gb_semantics.specs.Execution.{Rules};
 
     /// What its kinds of actions mean, its options, what the machine may do, and its plan.
     ghost rules: { Rules };

@@ -8,8 +8,8 @@ ghost use Rattle.gb_predict.specs.Prediction.{ArePredictedOf, IsPredictedOf, IsR
 ghost use Rattle.gb_predict.specs.Least.{AreNotStarting};
 ghost use Rattle.gb_predict.specs.Marks.{AreMarked, culprit, keeper, mark};
 ghost use Rattle.gb_label.specs.Deciding.{HasNamesInOrder};
-ghost use Rattle.gb_meaning.specs.Headline.{Agrees};
-ghost use Rattle.gb_meaning.specs.Kinds.{Kinds};
+ghost use Rattle.gb_semantics.specs.Headline.{Agrees};
+ghost use Rattle.gb_semantics.specs.Kinds.{Kinds};
 ghost use Rattle.gb_plan.specs.Graph.{order};
 ghost use Rattle.gb_graph.specs.Places.{AreSamePlaces, IsRising, places_from, with_places};
 ghost use Rattle.gb_graph.specs.Ranked.{number_at};
@@ -33,7 +33,6 @@ use std::alloc::{AllocError, Global};
 
 /// The outcome of each task of a plan, if it were executed on the folder as it is, in the order of
 /// the plan. `records` has what was read of their records, in that order. Nothing is changed.
-#[tactic(auto, using(crate::proofs::Lost::none_lost))]
 pub fn predict<A: Actions, F: Folder>(
     alloc: Global,
     folder: &mut F,
@@ -57,6 +56,45 @@ pub fn predict<A: Actions, F: Folder>(
         (F.device.failures folder.new) plan.now records.now reported.items) }
 {
     let row = outputs_by_place(alloc, plan)?;
+    let reported = predict_each::<A, F>(
+        alloc,
+        folder,
+        row.as_slice(),
+        plan,
+        table,
+        options,
+        records,
+    );
+    drop(row);
+    reported
+}
+
+/// The predictions for the tasks of a plan, one after another. `row` has their outputs by place.
+#[tactic(auto, using(crate::proofs::Lost::none_lost))]
+fn predict_each<A: Actions, F: Folder>(
+    alloc: Global,
+    folder: &mut F,
+    row: &[TaskPlace],
+    plan: &[Planned],
+    table: &ActionTable<A::Stored>,
+    options: Options,
+    records: &[Option<Record>],
+) -> Result<Vec<Prediction>, AllocError>
+    requires ready { AllByRecursion (λ planned. IsReady A.meanings table.now planned.task) plan.now }
+    requires in_order { AllByRecursion (λ planned. HasNamesInOrder planned.task) plan.now }
+    requires rising { IsRising row.now }
+    requires of_plan { AreSamePlaces (with_places [] (places_from output_places 0 plan.now)) row.now }
+    requires each { length records.now ≡ length plan.now }
+    ensures reads { OnlyReads F.device folder.old folder.new }
+    ensures paths { IfOk result (λ reported. map (λ one. one.path) reported.items ≡ order plan.now) }
+    ensures reasoned { IfOk result
+        (λ reported. AllByRecursion (λ one. IsReasoned one.coming) reported.items) }
+    ensures marked { IfOk result (λ reported. AreMarked plan.now reported.items) }
+    ensures prediction { F.device.faithful folder.new → (kinds : Kinds) → Agrees A.meanings table.now kinds
+        → IfOk result (λ reported. ArePredictedOf kinds options (F.device.contents folder.old)
+        (F.device.failures folder.old)
+        (F.device.failures folder.new) plan.now records.now reported.items) }
+{
     let mut reported = Vec::new(alloc);
     let mut not_starting = Numbers::new(alloc);
     for (at, planned) in plan.iter().enumerate() {
@@ -64,7 +102,7 @@ pub fn predict<A: Actions, F: Folder>(
         let one = prediction::<A, F>(
             alloc,
             folder,
-            row.as_slice(),
+            row,
             plan,
             reported.as_slice(),
             &not_starting,

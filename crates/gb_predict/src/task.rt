@@ -5,10 +5,10 @@ ghost use Rattle.gb_folder.specs.Files.{is_empty};
 ghost use Rattle.gb_predict.specs.Prediction.{IsPredictedOf, IsReasoned, reported_of};
 ghost use Rattle.gb_label.specs.Deciding.{HasNamesInOrder};
 ghost use Rattle.gb_label.specs.Reading.{CannotRead};
-ghost use Rattle.gb_meaning.specs.Headline.{Agrees};
-ghost use Rattle.gb_meaning.specs.Kinds.{Kinds};
-ghost use Rattle.gb_meaning.specs.Memory.{output_files};
-ghost use Rattle.gb_meaning.specs.Tree.{listing_faults};
+ghost use Rattle.gb_semantics.specs.Headline.{Agrees};
+ghost use Rattle.gb_semantics.specs.Kinds.{Kinds};
+ghost use Rattle.gb_semantics.specs.Memory.{output_files};
+ghost use Rattle.gb_semantics.specs.Tree.{listing_faults};
 ghost use Rattle.gb_plan.specs.Ready.{IsReady};
 
 use crate::explained::explained;
@@ -22,7 +22,7 @@ use gb_plan::task::TaskDeclaration;
 use gb_report::fault::Fault;
 use gb_report::report::Options;
 use gb_run::emptying::listed_outputs;
-use gb_tree::seen::Seen;
+use gb_tree::digest_cache::DigestCache;
 use std::alloc::Global;
 
 /// The outcome of a task on the folder as it is. `old` is the record that was read of it.
@@ -43,7 +43,7 @@ pub(crate) fn predicted_outcome<A: Actions, F: Folder>(
         → IsPredictedOf kinds options task.now (F.device.contents folder.old) (option_copied old.entry)
         (F.device.failures folder.old) (F.device.failures folder.new) result }
 {
-    let seen = Seen::new(alloc);
+    let seen = DigestCache::new(alloc);
     match prepare(alloc, folder, task, options, old, &seen, false) {
         Ok(Prepared::Skips) => PredictedOutcome::Skips,
         Ok(Prepared::HasNoActions) => PredictedOutcome::HasNoActions,

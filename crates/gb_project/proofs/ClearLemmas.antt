@@ -6,7 +6,7 @@ use Rattle.std.specs.Option.{option_to_list}
 use Rattle.std.proofs.lemmas.List.Elements.{All-from_recursion}
 use Rattle.std.specs.FinMap.Entries.{find}
 use Rattle.std.specs.Prelude.{is_some}
-use Rattle.gb_action.specs.declared.output.Form.TheVariants.{File, Dir}
+use Rattle.gb_action.specs.declared.output_files.Form.TheVariants.{File, Dir}
 use Rattle.gb_core.specs.Lists.{byte_order}
 use Rattle.gb_report.specs.declared.fault.Fault.TheVariants as faults
 use Rattle.gb_registry.specs.Projects.{Path}

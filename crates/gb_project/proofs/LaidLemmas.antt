@@ -19,7 +19,7 @@ use Rattle.gb_declare.proofs.MakingLemmas.{there_on}
 use Rattle.gb_declare.specs.Scripts.{laid_site, script_faults, script_made, script_site}
 use Rattle.gb_declare.specs.Site.{AreThere, Site}
 use Rattle.gb_declare.specs.NodesInTable.{scripts_faults, scripts_made, sites_made}
-use Rattle.gb_declare.specs.declared.scripts.Laid.{Laid}
+use Rattle.gb_declare.specs.declared.script_nodes.Laid.{Laid}
 use Rattle.gb_project.proofs.ScriptLemmas.{count_folded}
 use Rattle.gb_project.specs.Stage.{AreAllGood, Stage, with_script, with_scripts}
 use Rattle.gb_project.specs.Steps.{Begins, laid_sites, task_paths}

@@ -1,7 +1,7 @@
 -- Outputs and their required positions.
 use Rattle.std.specs.Prelude.{ℕ, ◌≡◌, List, if◌then◌else◌, Result, Ok, Err}
 use Rattle.std.proofs.Common.{sym, subst}
-use Rattle.gb_action.specs.declared.output.Form.{Form}
+use Rattle.gb_action.specs.declared.output_files.Form.{Form}
 use Rattle.gb_core.specs.Place.{is_beneath}
 use Rattle.gb_plan.specs.declared.task.Output.{Output}
 use Rattle.gb_registry.specs.Projects.{Path}

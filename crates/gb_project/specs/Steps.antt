@@ -4,7 +4,7 @@ use Rattle.gb_declare.specs.Declaring.{faults_within, unless}
 use Rattle.gb_declare.specs.Joined.{Joined, Named, joined}
 use Rattle.gb_declare.specs.Scripts.{laid_site}
 use Rattle.gb_declare.specs.Site.{Site}
-use Rattle.gb_declare.specs.declared.scripts.Laid.{Laid}
+use Rattle.gb_declare.specs.declared.script_nodes.Laid.{Laid}
 use Rattle.gb_provider.specs.Answers.{Held}
 use Rattle.gb_registry.specs.Projects.{Path}
 use Rattle.gb_registry.specs.References.{Names}

@@ -16,8 +16,8 @@ use gb_provider::expression::Node;
 use gb_provider::providers::Providers;
 use gb_provider::transforms::Transforms;
 use gb_report::fault::Fault;
-use gb_script::expression::Expression;
 use gb_script::script::Condition;
+use gb_script::script_expression::Expression;
 use std::alloc::{AllocError, Global};
 
 /// The word of the clause.

@@ -3,7 +3,7 @@ use gb_action::actions::Actions;
 use gb_provider::transforms::Transforms;
 use gb_registry::projects::ProjectSet;
 use gb_registry::tables::Tables;
-use gb_registry::texts::TextSet;
+use gb_registry::unique_texts::TextSet;
 use gb_report::fault::Fault;
 
 /// What evaluating a task needs in addition to the providers.

@@ -10,18 +10,18 @@ ghost use Rattle.gb_project.specs.Parts.{AreAllWithin, AreCounted, HaveAllValues
 ghost use Rattle.gb_project.specs.Parts.{ReportsOfParts};
 ghost use Rattle.gb_project.specs.Rows.{AreWithin, IsAt, ReportsOf};
 
-use crate::actions::actions;
 use crate::conditions::{all_hold, is_enabled};
 use crate::context::Context;
-use crate::files::properties;
+use crate::file_properties::properties;
+use crate::input_values::values;
 use crate::needs::needs;
 use crate::output_values::outputs;
 use crate::parts::{Contents, Flags, Parts, split};
-use crate::values::values;
+use crate::task_actions::actions;
 use gb_action::actions::Actions;
 use gb_core::path::TaskPath;
 use gb_core::place::Place;
-use gb_core::tasks::TaskPaths;
+use gb_core::task_paths::TaskPaths;
 use gb_declare::registered::Joined;
 use gb_plan::task::TaskDeclaration;
 use gb_provider::expression::Node;

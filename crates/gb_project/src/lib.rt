@@ -25,13 +25,12 @@
 //! Laws: `tasks_in_table`, `tasks_are_good`, `declared_names_rise`.
 #![tactic(auto)]
 
-mod actions;
-mod blocks;
 mod conditions;
 pub mod context;
 mod declared_task;
 pub mod evaluating;
-mod files;
+mod file_properties;
+mod input_values;
 mod named;
 mod needs;
 mod one_value;
@@ -41,11 +40,12 @@ pub mod parts;
 pub mod properties;
 mod registering;
 mod reporting;
-mod rows;
+mod row_values;
 pub mod script_tasks;
 mod scripts;
+mod task_actions;
+mod task_blocks;
+mod task_declaring;
 pub mod task_laws;
-mod tasks;
-mod values;
 pub mod workspace_laws;
 pub mod workspaces;

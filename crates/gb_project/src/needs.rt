@@ -13,7 +13,7 @@ use crate::context::Context;
 use crate::one_value::producers;
 use crate::parts::Parts;
 use gb_action::actions::Actions;
-use gb_core::tasks::TaskPaths;
+use gb_core::task_paths::TaskPaths;
 use gb_provider::expression::Node;
 use gb_provider::providers::Providers;
 use gb_provider::transforms::Transforms;

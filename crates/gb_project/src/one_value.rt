@@ -19,7 +19,7 @@ use gb_action::actions::Actions;
 use gb_core::name::Name;
 use gb_core::path::TaskPath;
 use gb_core::place::Place;
-use gb_core::tasks::TaskPaths;
+use gb_core::task_paths::TaskPaths;
 use gb_core::text::Text;
 use gb_core::value::Value;
 use gb_provider::expression::Node;

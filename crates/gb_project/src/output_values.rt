@@ -15,7 +15,7 @@ ghost use Rattle.gb_project.specs.Rows.{AreWithin, ReportsOf};
 use crate::context::Context;
 use crate::one_value::require_place;
 use gb_action::actions::Actions;
-use gb_action::output::Form;
+use gb_action::output_files::Form;
 use gb_core::name::Name;
 use gb_core::path::TaskPath;
 use gb_core::place::Place;
@@ -24,7 +24,7 @@ use gb_provider::expression::Node;
 use gb_provider::providers::Providers;
 use gb_provider::transforms::Transforms;
 use gb_report::fault::Fault;
-use gb_script::expression::Expression;
+use gb_script::script_expression::Expression;
 use std::alloc::Global;
 use std::collections::BTreeMap;
 

@@ -5,14 +5,14 @@ ghost use Rattle.gb_declare.specs.Statements.{IsRun};
 ghost use Rattle.gb_provider.specs.Rules.{numbers_of};
 ghost use Rattle.gb_project.specs.Stage.{with_output, with_outputs};
 
-use gb_action::output::Form;
+use gb_action::output_files::Form;
 use gb_core::name::Name;
 use gb_core::path::TaskPath;
 use gb_core::text::Text;
 use gb_provider::expression::Node;
 use gb_provider::providers::Providers;
 use gb_provider::transforms::Transforms;
-use gb_script::expression::Expression;
+use gb_script::script_expression::Expression;
 use std::alloc::{AllocError, Global};
 use std::collections::BTreeMap;
 

@@ -3,7 +3,7 @@ ghost use Rattle.std.specs.Prelude.{◌≡◌, [], IfOk, filter_map};
 ghost use Rattle.gb_registry.specs.Projects.{with_paths};
 ghost use Rattle.gb_registry.specs.Said.{declared_property};
 
-use gb_registry::texts::TextSet;
+use gb_registry::unique_texts::TextSet;
 use gb_script::script::Statement;
 use std::alloc::{AllocError, Global};
 

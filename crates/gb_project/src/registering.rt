@@ -8,7 +8,7 @@ ghost use Rattle.gb_script.specs.declared.script.Statement.TheVariants.{Register
 ghost use Rattle.gb_project.specs.Blocks.{AreBlocks, clauses_under};
 ghost use Rattle.gb_project.specs.Tasks.{registered_in};
 
-use crate::blocks::{Blocks, push_clauses};
+use crate::task_blocks::{Blocks, push_clauses};
 use gb_core::name::Name;
 use gb_core::path::{ProjectPath, TaskPath};
 use gb_declare::registered::Registered;

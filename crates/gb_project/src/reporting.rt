@@ -17,7 +17,7 @@ use gb_provider::fault::{Chosen, Refusal, ValueFault};
 use gb_provider::transforms::Transforms;
 use gb_registry::names::Names;
 use gb_registry::projects::ProjectSet;
-use gb_registry::texts::TextSet;
+use gb_registry::unique_texts::TextSet;
 use gb_report::fault::Fault;
 use std::alloc::{AllocError, Global};
 

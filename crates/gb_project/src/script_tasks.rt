@@ -12,7 +12,7 @@ use crate::named::read_names;
 use crate::workspaces::Workspace;
 use gb_action::actions::Actions;
 use gb_core::path::TaskPath;
-use gb_core::tasks::TaskPaths;
+use gb_core::task_paths::TaskPaths;
 use gb_core::text::{Text, Texts};
 use gb_graph::tasks::Tasks;
 use gb_plan::task::TaskDeclaration;

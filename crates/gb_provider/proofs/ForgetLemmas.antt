@@ -5,7 +5,7 @@ use Rattle.std.proofs.lemmas.Option.{slice_get-map}
 use Rattle.std.specs.Prelude.{Option, Some, None, Ok, slice_get, option_map}
 use Rattle.std.proofs.Common.{inl, inr}
 use Rattle.gb_provider.specs.declared.fault.Chosen.{Chosen}
-use Rattle.gb_provider.specs.declared.change.Change.{Change}
+use Rattle.gb_provider.specs.declared.property_change.Change.{Change}
 use Rattle.gb_provider.specs.declared.expression.Expression.{Expression}
 use Rattle.gb_provider.specs.declared.expression.Expression.TheVariants.{OfOutput, OfProperty}
 use Rattle.gb_provider.specs.declared.expression.Outcome.{Outcome}

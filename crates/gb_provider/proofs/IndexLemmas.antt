@@ -19,7 +19,7 @@ use Rattle.std.proofs.Math.Dec.{eqb}
 use Rattle.std.proofs.lemmas.Option.{get_or_from_slice_get, slice_get-get_or, slice_get_read, slice_get_within}
 use Rattle.std.proofs.lemmas.List.{set-get_or}
 use Rattle.std.proofs.lemmas.List.Quantifiers.{position-Some}
-use Rattle.gb_provider.specs.declared.change.Change.{Change}
+use Rattle.gb_provider.specs.declared.property_change.Change.{Change}
 use Rattle.gb_provider.specs.declared.fault.Chosen.{Chosen}
 use Rattle.gb_provider.specs.declared.fault.Final.{Final}
 use Rattle.gb_provider.specs.declared.expression.Property.{Property}

@@ -2,8 +2,8 @@
 use Rattle.std.proofs.Common.{◌≡◌, ℕ, zero, suc, ap, subst, ◌+◌, ◌<◌, ◌≤◌, List, [], ◌∷◌, ◌++◌, length, set, refl, sym, arith, inl, inr, length-append, length-set}
 use Rattle.std.specs.Prelude.{All, Option, Some, None, Bool, true, false, Ok, slice_get}
 use Rattle.std.proofs.lemmas.Option.{get_or_from_slice_get, slice_get_within}
-use Rattle.gb_provider.specs.declared.change.Change.{Change}
-use Rattle.gb_provider.specs.declared.change.Change.TheVariants.{Set, SetFrom, Unset, Convention, Finalize}
+use Rattle.gb_provider.specs.declared.property_change.Change.{Change}
+use Rattle.gb_provider.specs.declared.property_change.Change.TheVariants.{Set, SetFrom, Unset, Convention, Finalize}
 use Rattle.gb_provider.specs.declared.expression.Property.{Property}
 use Rattle.gb_provider.specs.Changes.{open_property, if_taken, takes, changed, ChangeWithin, AreChanged}
 use Rattle.std.proofs.Math.ListN.{get_or-append}

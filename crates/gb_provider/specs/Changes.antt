@@ -11,8 +11,8 @@ use Rattle.gb_provider.specs.declared.expression.Expression.TheVariants.{Listed,
 use Rattle.gb_provider.specs.declared.expression.Expression.TheVariants.{OrElse}
 use Rattle.gb_provider.specs.declared.expression.Node.{Node}
 use Rattle.gb_provider.specs.declared.fault.Chosen.{Chosen}
-use Rattle.gb_provider.specs.declared.change.Change.{Change}
-use Rattle.gb_provider.specs.declared.change.Change.TheVariants as changes
+use Rattle.gb_provider.specs.declared.property_change.Change.{Change}
+use Rattle.gb_provider.specs.declared.property_change.Change.TheVariants as changes
 use Rattle.gb_provider.specs.Answers as answers
 use Rattle.gb_provider.specs.Steps.{IsAdded}
 

@@ -19,7 +19,7 @@ use crate::shared_value::Shared;
 use crate::transforms::Transforms;
 use crate::work_list::Entries;
 use gb_core::path::TaskPath;
-use gb_core::tasks::TaskPaths;
+use gb_core::task_paths::TaskPaths;
 use gb_core::value::Value;
 use std::alloc::{AllocError, Global};
 use std::marker::Model;
@@ -121,7 +121,7 @@ fn has_tasks(states: &[State<Shared<Produced<usize>>>], operand: usize) -> bool
     }
 }
 
-/// The first operand from here on whose tasks are not known.
+/// The first operand from index `from` on whose tasks are not known.
 fn past_tasks(states: &[State<Shared<Produced<usize>>>], operands: &[usize], from: usize) -> usize
     requires operands { All (λ operand. operand < length states.now) operands.now }
     requires before { AreBefore (λ operand. has_tasks (known states.now operand)) operands.now from }

@@ -19,7 +19,7 @@ fn label(alloc: Global, owner: &str, name: &str) -> Result<Text, AllocError>
     Text::new(text)
 }
 
-/// Appends the label of a name.
+/// Appends the text that a circle shows of an owner and a name.
 fn push_label(alloc: Global, owner: &str, name: &str, names: &mut Texts) -> Result<(), AllocError>
     ensures { IfOk result (λ _. names.new ≡ names.old ++ label owner.now name.now ∷ []) }
 {

@@ -1,4 +1,21 @@
 //! One evaluation step of an expression, given the answers that are known.
+//!
+//! Input: the table of expressions, the index of its outputs, the states of all expressions, and
+//! one expression. Output: its answer, which is a value, absent or a fault; or the first operand
+//! that it needs and whose answer is not known. [`work_list`](crate::work_list) then evaluates this
+//! operand, and repeats the step.
+//!
+//! A constant has its answer. A property follows its setting, or else its convention; an output
+//! follows the expression that it is declared as, and is a fault (36) until it is declared. `map`,
+//! `flatMap` and `zip` call a function on the values of their operands; an operand without a value
+//! is the answer itself. `orElse` reads its second operand only if the first is absent. A list has
+//! the answer of its first operand without a value, if there is one; only then is an operand that
+//! is no text a fault (34).
+//!
+//! What makes it right: a step is `reading` of the rule that `specs/Rules.antt` has for the
+//! expression, so it reads no operand before that one is needed. The cost: an answer that is only
+//! passed on is shared, and a list goes on at the first operand that was not known (`past`). A
+//! `flatMap` calls its function again after a wait for the output that it chose.
 ghost use Rattle.std.specs.Prelude.{◌≡◌, ◌<◌, ◌++◌, ◌∷◌, ℕ, [], length, slice_index, false, IfOk, OnOk};
 ghost use Rattle.std.specs.Prelude.{All, codes, Ok};
 ghost use Rattle.std.specs.Option.{option_copied};
@@ -362,7 +379,7 @@ fn is_given(states: &[State<Shared<Outcome>>], operand: usize) -> bool
     }
 }
 
-/// The first operand from here on that is not known to be a value.
+/// The first operand from index `from` on that is not known to be a value.
 fn past_texts(states: &[State<Shared<Outcome>>], operands: &[usize], from: usize) -> usize
     requires operands { All (λ operand. operand < length states.now) operands.now }
     requires before { AreBefore (λ operand. is_given (known states.now operand)) operands.now from }

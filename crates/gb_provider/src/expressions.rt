@@ -6,9 +6,9 @@ ghost use Rattle.gb_provider.specs.Changes.{AreChanged};
 ghost use Rattle.gb_provider.specs.Indexed.{chosen_order, IsIndexed, IsNoOutput};
 ghost use Rattle.gb_provider.specs.Rules.{PlaceWithin, output_place};
 
-use crate::change::{Change, change_property, declare};
 use crate::expression::{Expression, Output};
 use crate::fault::{Chosen, Final};
+use crate::property_change::{Change, change_property, declare};
 use std::alloc::{AllocError, Global};
 use std::collections::BTreeMap;
 use std::marker::Model;

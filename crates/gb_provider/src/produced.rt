@@ -1,7 +1,7 @@
 //! The tasks that produce the values of expressions.
 
 use crate::fault::ValueFault;
-use gb_core::tasks::TaskPaths;
+use gb_core::task_paths::TaskPaths;
 
 /// The result of finding the tasks that produce an expression; expressions are named by keys.
 #[derive(Drop)]

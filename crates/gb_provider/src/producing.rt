@@ -18,7 +18,7 @@ use crate::recall::{extend, recall, report_circle};
 use crate::shared_value::Shared;
 use crate::transforms::Transforms;
 use crate::work_list::evaluate;
-use gb_core::tasks::TaskPaths;
+use gb_core::task_paths::TaskPaths;
 use std::alloc::{AllocError, Global};
 use std::mem;
 

@@ -10,20 +10,20 @@ ghost use Rattle.gb_provider.specs.Indexed.{IsNoOutput};
 ghost use Rattle.gb_provider.specs.Rules.{numbers_of, OperandsWithin, PlaceWithin, output_place};
 ghost use Rattle.gb_provider.specs.Steps.{IsAdded, IsStep};
 
-use crate::change::Change;
 use crate::evaluation::State;
 use crate::expression::{Call, Expression, Node, Operands, Outcome, Property};
 use crate::expressions::Expressions;
 use crate::fault::{Chosen, Final, ProviderFault, StepFault, TransformFault, ValueFault};
 use crate::produced::Produced;
 use crate::producing::recall_producers;
+use crate::property_change::Change;
 use crate::recall::{forget, recall};
 use crate::shared_value::Shared;
 use crate::table::TransformTable;
 use crate::transforms::Transforms;
 use gb_core::name::Name;
 use gb_core::path::{ProjectPath, TaskPath};
-use gb_core::tasks::TaskPaths;
+use gb_core::task_paths::TaskPaths;
 use gb_core::text::{Text, Texts};
 use gb_core::value::Value;
 use std::alloc::{AllocError, Global};
@@ -129,8 +129,8 @@ impl<'a, T: Transforms> Providers<'a, T> {
         }))
     }
 
-    /// The list of the texts of these operands. The first from the left that is no value decides;
-    /// if all are values, 34 if one is no text.
+    /// The list of the texts of these operands. If an operand has no value, the first of these,
+    /// from the left, is the result; if all have values and one is no text, 34.
     pub fn list(&mut self, elements: &[Node]) -> Result<Node, AllocError>
         requires { All (λ element. element.number < length self.old.nodes) elements.now }
         ensures ok { IfOk result (λ node.
@@ -141,7 +141,7 @@ impl<'a, T: Transforms> Providers<'a, T> {
         self.add(Expression::Listed(operands))
     }
 
-    /// The left if it is present, else the right.
+    /// The value of the left if it is present, else that of the right.
     pub fn or_else(&mut self, left: Node, right: Node) -> Result<Node, AllocError>
         requires left { left.number < length self.old.nodes }
         requires right { right.number < length self.old.nodes }

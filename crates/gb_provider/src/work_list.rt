@@ -1,4 +1,20 @@
 //! Evaluates one expression with a work list instead of recursion, so that no chain is too long.
+//!
+//! Input: entries with their rules ([`Entries`]), the state of each (new, open or known), and the
+//! entry to evaluate. Output: its answer is known in the states; or the circle into which it runs.
+//! The steps:
+//!
+//! 1. The entry is opened: it is the path.
+//! 2. The last entry of the path is taken off, and one evaluation step of it is made (`look`).
+//! 3. If that gives an answer, the entry is known. If it waits for an operand, the entry is put
+//!    back. An operand that is open is on the path: the path from it on is the circle. Any other is
+//!    opened at the end of the path. Step 2 follows, until the path is empty.
+//!
+//! What makes it right (`IsSearch` in `specs/Search.antt`): each known answer is that of the
+//! definition and follows from known ones; the open entries are those of the path, each once; and
+//! each waits for the next. It ends, since entries only go from new to open and to known. The cost:
+//! one step for each entry that is needed, and one for each wait. After a circle or a lack of
+//! memory open entries remain, so the callers forget all states.
 ghost use Rattle.std.specs.Prelude.{◌≡◌, ◌<◌, [], ◌∷◌, ◌++◌, ℕ, List, length, IfOk, OnOk, Some, None};
 ghost use Rattle.std.specs.Prelude.{slice_index, slice_set, slice_get, ◌≢◌};
 ghost use Rattle.std.specs.Bool.{OnTrue, OnFalse};

@@ -20,6 +20,9 @@
 //!   name that no place has (`IsUnlisted`).
 //!
 //! The calls on all tasks have as premise that the paths are those of the registry.
+//!
+//! Out of scope: whether a task would be executed, and why (`gb_predict`); what is wrong with its
+//! declaration (`gb_check`); and pictures of a plan (`gb_picture`).
 #![tactic(auto)]
 
 pub mod answer_lines;

@@ -7,8 +7,8 @@ ghost use Rattle.gb_query.specs.Membership.{takes_in, takes_in_from};
 use gb_core::place::{Place, PlaceFault};
 use gb_folder::own::is_own;
 use gb_plan::task::FileProperty;
-use gb_tree::path::text_from;
 use gb_tree::pattern::Pattern;
+use gb_tree::relative::text_from;
 use std::alloc::{AllocError, Global};
 
 /// Whether a file at the place belongs to the property. The file need not exist.

@@ -16,8 +16,8 @@ use Rattle.gb_action.specs.Files.{Tree, file_at}
 use Rattle.gb_action.specs.Shapes.{is_form}
 use Rattle.gb_action.specs.declared.change.Change.{Change}
 use Rattle.gb_action.specs.declared.change.Change.TheVariants.{Added, Modified, Removed}
-use Rattle.gb_action.specs.declared.output.Form.{Form}
-use Rattle.gb_action.specs.declared.output.Form.TheVariants as forms
+use Rattle.gb_action.specs.declared.output_files.Form.{Form}
+use Rattle.gb_action.specs.declared.output_files.Form.TheVariants as forms
 use Rattle.gb_history.specs.Record.{Prints}
 use Rattle.gb_history.specs.declared.record.OutputRecord.{OutputRecord}
 use Rattle.gb_reason.specs.Real.{declared}

@@ -8,7 +8,7 @@ use Rattle.gb_core.specs.declared.value.Value.{Value}
 use Rattle.gb_action.specs.Changes.{IsChange}
 use Rattle.gb_action.specs.Files.{Tree}
 use Rattle.gb_action.specs.declared.change.Change.{Change}
-use Rattle.gb_action.specs.declared.output.Form.{Form}
+use Rattle.gb_action.specs.declared.output_files.Form.{Form}
 use Rattle.gb_folder.specs.Files.{is_empty}
 use Rattle.gb_history.specs.Decision.{Decides, IsSince, changes_since}
 use Rattle.gb_history.specs.Record.{Record, prints_in}

@@ -12,7 +12,7 @@ use Rattle.gb_folder.proofs.Leading.{leads_once}
 use Rattle.gb_history.specs.Places.{record_place}
 use Rattle.gb_history.specs.Record.{Record}
 use Rattle.gb_history.specs.Text.{record_text}
-use Rattle.gb_meaning.specs.Events.{max_record}
+use Rattle.gb_semantics.specs.Events.{max_record}
 use Rattle.gb_plan.specs.Task.{Path}
 use Rattle.gb_records.specs.Called.{Deletion, Storing, WasHindered, deletion_ending, has_no_place, storing_ending}
 use Rattle.gb_records.specs.Holding.{is_too_long}

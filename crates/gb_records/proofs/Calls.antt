@@ -23,11 +23,11 @@ use Rattle.gb_history.specs.Record.{Record, IsWellFormed}
 use Rattle.gb_history.specs.Text.{record_text}
 use Rattle.gb_history.specs.declared.record.Edition.TheVariants as editions
 use Rattle.gb_history.proofs.Lists.{all_true}
-use Rattle.gb_meaning.specs.Events.{max_record}
-use Rattle.gb_meaning.specs.Headline.{TornWritesAreDetected}
-use Rattle.gb_meaning.specs.Memory.{Entry, Memory, remember, forget}
-use Rattle.gb_meaning.specs.TrueRecord.{IsTextOfNoRecord}
-use Rattle.gb_meaning.proofs.Lemmas.Files.{same_place}
+use Rattle.gb_semantics.specs.Events.{max_record}
+use Rattle.gb_semantics.specs.Headline.{TornWritesAreDetected}
+use Rattle.gb_semantics.specs.Memory.{Entry, Memory, remember, forget}
+use Rattle.gb_semantics.specs.TrueRecord.{IsTextOfNoRecord}
+use Rattle.gb_semantics.proofs.Lemmas.Files.{same_place}
 use Rattle.gb_records.specs.Faults.{none_for, removed_by, unwritten_for}
 use Rattle.gb_records.specs.Said.{IsText, IsSaidOf, IsReadAt}
 use Rattle.gb_records.specs.Texts.{IsTextAt}

@@ -18,14 +18,14 @@ use Rattle.gb_plan.specs.declared.task.Output.{Output}
 use Rattle.gb_plan.specs.declared.task.TaskDeclaration.{TaskDeclaration as Task}
 use Rattle.gb_tree.specs.Tree.{path_from, files_from}
 use Rattle.gb_history.specs.Record.{Record, prints_in}
-use Rattle.gb_meaning.specs.Kinds.{Kinds}
-use Rattle.gb_meaning.specs.Memory.{Entry, entry_of, output_files}
-use Rattle.gb_meaning.specs.TrueRecord.{contents_in, contents_of, output_record_of, prints_of, record_of}
-use Rattle.gb_meaning.proofs.Lemmas.Files.{at-where, same_files, sorted-where}
-use Rattle.gb_meaning.proofs.Lemmas.Making.{IsRight, made_of_is_right}
+use Rattle.gb_semantics.specs.Kinds.{Kinds}
+use Rattle.gb_semantics.specs.Memory.{Entry, entry_of, output_files}
+use Rattle.gb_semantics.specs.TrueRecord.{contents_in, contents_of, output_record_of, prints_of, record_of}
+use Rattle.gb_semantics.proofs.Lemmas.Files.{at-where, same_files, sorted-where}
+use Rattle.gb_semantics.proofs.Lemmas.Making.{IsRight, made_of_is_right}
 use Rattle.gb_records.specs.Digests.{IsClearTo, RecordsDetermineEntries, UpToDateIsCurrent}
-use Rattle.gb_meaning.specs.Label.{IsCurrent}
-use Rattle.gb_meaning.proofs.Common.{some_same}
+use Rattle.gb_semantics.specs.Label.{IsCurrent}
+use Rattle.gb_semantics.proofs.Common.{some_same}
 use Rattle.gb_history.specs.Decision.{IsUpToDate}
 use Rattle.gb_records.proofs.Separate.{found_from, output_observed, trees_back}
 use Rattle.gb_records.proofs.Calls.{unplaced}

@@ -14,12 +14,12 @@ use Rattle.gb_plan.specs.declared.task.TaskDeclaration.{TaskDeclaration as Task}
 use Rattle.gb_history.specs.declared.decide.Present.{Present}
 use Rattle.gb_history.specs.Decision.{IsAlike, IsSince, changes_of, changes_since, is_incremental}
 use Rattle.gb_history.specs.Record.{Record, Prints}
-use Rattle.gb_meaning.specs.Kinds.{Kinds}
-use Rattle.gb_meaning.specs.Label.{IsIncremental, changes_from, has_one_writer}
-use Rattle.gb_meaning.specs.Memory.{Entry, entry_of, output_files}
-use Rattle.gb_meaning.specs.Tree.{tree_of}
-use Rattle.gb_meaning.specs.TrueRecord.{contents_of, output_record_of, prints_of, record_of}
-use Rattle.gb_meaning.proofs.Common.{some_same}
+use Rattle.gb_semantics.specs.Kinds.{Kinds}
+use Rattle.gb_semantics.specs.Label.{IsIncremental, changes_from, has_one_writer}
+use Rattle.gb_semantics.specs.Memory.{Entry, entry_of, output_files}
+use Rattle.gb_semantics.specs.Tree.{tree_of}
+use Rattle.gb_semantics.specs.TrueRecord.{contents_of, output_record_of, prints_of, record_of}
+use Rattle.gb_semantics.proofs.Common.{some_same}
 use Rattle.gb_records.specs.Digests.{ChangesAreOfContents, IsClearTo, IsPresent, SinceIsIncremental}
 use Rattle.gb_records.specs.Said.{IsSaidOf}
 use Rattle.gb_records.proofs.Digests.{InAll, files_reported, inputs_in, now_in, old_in}

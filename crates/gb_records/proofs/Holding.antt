@@ -14,11 +14,11 @@ use Rattle.gb_folder.proofs.Changes.{file_at-with_file, file_at-without}
 use Rattle.gb_plan.specs.Task.{Path}
 use Rattle.gb_history.specs.Places.{record_place}
 use Rattle.gb_history.proofs.Places.{separate}
-use Rattle.gb_meaning.specs.Headline.{TornWritesAreDetected}
-use Rattle.gb_meaning.specs.Memory.{Entry, Memory, recalled, remember, forget}
-use Rattle.gb_meaning.specs.TrueRecord.{Stores, IsTextOfNoRecord, record_of}
-use Rattle.gb_meaning.proofs.Lemmas.Files.{total, tied_same, of_T, T_of}
-use Rattle.gb_meaning.proofs.Lemmas.Truth.{filter_each}
+use Rattle.gb_semantics.specs.Headline.{TornWritesAreDetected}
+use Rattle.gb_semantics.specs.Memory.{Entry, Memory, recalled, remember, forget}
+use Rattle.gb_semantics.specs.TrueRecord.{Stores, IsTextOfNoRecord, record_of}
+use Rattle.gb_semantics.proofs.Lemmas.Files.{total, tied_same, of_T, T_of}
+use Rattle.gb_semantics.proofs.Lemmas.Truth.{filter_each}
 use Rattle.gb_records.specs.Said.{IsText}
 use Rattle.gb_records.specs.Holding.{HoldsRecords}
 

@@ -6,8 +6,8 @@ use Rattle.gb_action.specs.Files.{Tree, Trees}
 use Rattle.gb_folder.specs.Files.{Files}
 use Rattle.gb_history.specs.Record.{Prints, prints_in}
 use Rattle.gb_history.specs.declared.record.OutputRecord.{OutputRecord}
-use Rattle.gb_meaning.specs.Memory.{Entry}
-use Rattle.gb_meaning.specs.TrueRecord.{output_record_of, prints_of, record_of}
+use Rattle.gb_semantics.specs.Memory.{Entry}
+use Rattle.gb_semantics.specs.TrueRecord.{output_record_of, prints_of, record_of}
 use Rattle.gb_plan.specs.declared.task.Output.{Output}
 use Rattle.gb_tree.specs.Tree.{files_from}
 

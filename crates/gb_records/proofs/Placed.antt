@@ -15,8 +15,8 @@ use Rattle.gb_action.specs.Meanings.{Values}
 use Rattle.gb_action.specs.declared.reply.Written.{Written}
 use Rattle.gb_plan.specs.declared.task.Action.{Action}
 use Rattle.gb_plan.specs.declared.task.Output.{Output}
-use Rattle.gb_meaning.specs.Kinds.{Kinds, kind_of}
-use Rattle.gb_meaning.specs.Made.{act, fault_if, file_faults, made_of, placed, put_over, put_result, step_faults}
+use Rattle.gb_semantics.specs.Kinds.{Kinds, kind_of}
+use Rattle.gb_semantics.specs.Made.{act, fault_if, file_faults, made_of, placed, put_over, put_result, step_faults}
 
 abbrev exist : List (Place × Bytes) → Bool
 exist files = list_all (λ (file : Place × Bytes). is_place file.0) files

@@ -18,8 +18,8 @@ use Rattle.gb_action.specs.Files.{Tree, Trees}
 use Rattle.gb_tree.specs.Tree.{bytes_at, path_from, entries_from, contents_at, files_from}
 use Rattle.gb_tree.proofs.Under.{under_parts}
 use Rattle.gb_tree.proofs.InOrder.{paths_ordered}
-use Rattle.gb_meaning.specs.TrueRecord.{prints_of}
-use Rattle.gb_meaning.proofs.Lemmas.Files.{same_place, tied_same, total}
+use Rattle.gb_semantics.specs.TrueRecord.{prints_of}
+use Rattle.gb_semantics.proofs.Lemmas.Files.{same_place, tied_same, total}
 
 module _ (digest : Bytes → List ℕ) (P : Bytes → Type 0) (separate : (a b : Bytes) → P a → P b → digest a ≡ digest b → a ≡ b) where
   abbrev pub AllObserved : Tree → Type 0

@@ -18,8 +18,8 @@ use Rattle.gb_action.specs.Files.{Tree, Trees, file_at, tree_at}
 use Rattle.gb_tree.specs.Prints.{digests_of}
 use Rattle.gb_tree.proofs.Digests.{same_changes}
 use Rattle.gb_plan.specs.declared.task.FileProperty.{FileProperty}
-use Rattle.gb_meaning.specs.Tree.{tree_of}
-use Rattle.gb_meaning.specs.TrueRecord.{prints_of}
+use Rattle.gb_semantics.specs.Tree.{tree_of}
+use Rattle.gb_semantics.specs.TrueRecord.{prints_of}
 use Rattle.gb_history.specs.Decision.{IsAlike, changes_of, is_incremental}
 use Rattle.gb_records.proofs.Separate.{tree_back}
 

@@ -5,7 +5,7 @@ use Rattle.gb_folder.specs.Calls.{Reads}
 use Rattle.gb_folder.specs.Files.{Bytes}
 use Rattle.gb_history.specs.Places.{record_place}
 use Rattle.gb_history.specs.Record.{Record}
-use Rattle.gb_meaning.specs.Events.{max_record}
+use Rattle.gb_semantics.specs.Events.{max_record}
 use Rattle.gb_plan.specs.Task.{Path}
 use Rattle.gb_records.specs.Said.{IsText}
 use Rattle.gb_folder.specs.Calls.{Device}

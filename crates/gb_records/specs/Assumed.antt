@@ -2,8 +2,8 @@
 use Rattle.gb_action.specs.Meanings.{Meanings}
 use Rattle.gb_folder.specs.Files.{Tearing}
 use Rattle.gb_history.specs.Places.{record_place}
-use Rattle.gb_meaning.specs.Headline.{Agrees, TornWritesAreDetected}
-use Rattle.gb_meaning.specs.Kinds.{Kinds}
+use Rattle.gb_semantics.specs.Headline.{Agrees, TornWritesAreDetected}
+use Rattle.gb_semantics.specs.Kinds.{Kinds}
 use Rattle.gb_plan.specs.Ready.{Rows}
 use Rattle.gb_records.specs.Said.{IsText}
 

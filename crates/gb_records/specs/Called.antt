@@ -7,7 +7,7 @@ use Rattle.gb_folder.specs.Semantics.{Answer}
 use Rattle.gb_history.specs.Places.{record_place}
 use Rattle.gb_history.specs.Record.{Record}
 use Rattle.gb_history.specs.Text.{record_text}
-use Rattle.gb_meaning.specs.Events.{max_record}
+use Rattle.gb_semantics.specs.Events.{max_record}
 use Rattle.gb_plan.specs.Task.{Path}
 use Rattle.gb_records.specs.Faults.{removed_by, unwritten_for}
 use Rattle.gb_records.specs.Holding.{is_too_long}

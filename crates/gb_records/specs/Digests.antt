@@ -8,10 +8,10 @@ use Rattle.gb_plan.specs.declared.task.TaskDeclaration.{TaskDeclaration as Task}
 use Rattle.gb_history.specs.Record.{Record, AreInOrder}
 use Rattle.gb_history.specs.Decision.{IsSince, IsUpToDate, changes_since}
 use Rattle.gb_history.specs.declared.decide.Present.{Present}
-use Rattle.gb_meaning.specs.Kinds.{Kinds}
-use Rattle.gb_meaning.specs.Label.{IsCurrent, IsIncremental, changes_from, has_one_writer}
-use Rattle.gb_meaning.specs.Memory.{Entry, World, entry_of, recalled}
-use Rattle.gb_meaning.specs.TrueRecord.{AreCollisionFree, IsMade, contents_of, record_of}
+use Rattle.gb_semantics.specs.Kinds.{Kinds}
+use Rattle.gb_semantics.specs.Label.{IsCurrent, IsIncremental, changes_from, has_one_writer}
+use Rattle.gb_semantics.specs.Memory.{Entry, World, entry_of, recalled}
+use Rattle.gb_semantics.specs.TrueRecord.{AreCollisionFree, IsMade, contents_of, record_of}
 use Rattle.gb_records.specs.Said.{IsSaidOf}
 
 -- The entry is true, the folder's files are at places, no output is the tool's own, and no two contents of

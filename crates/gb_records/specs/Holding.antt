@@ -13,9 +13,9 @@ use Rattle.gb_plan.specs.Task.{Path}
 use Rattle.gb_history.specs.Record.{Record}
 use Rattle.gb_history.specs.Text.{record_text}
 use Rattle.gb_history.specs.Places.{record_place}
-use Rattle.gb_meaning.specs.Events.{max_record}
-use Rattle.gb_meaning.specs.Memory.{Entry, Memory, recalled, remember, forget}
-use Rattle.gb_meaning.specs.TrueRecord.{Stores}
+use Rattle.gb_semantics.specs.Events.{max_record}
+use Rattle.gb_semantics.specs.Memory.{Entry, Memory, recalled, remember, forget}
+use Rattle.gb_semantics.specs.TrueRecord.{Stores}
 use Rattle.gb_records.specs.Said.{IsText}
 use Rattle.gb_records.specs.declared.fault.Unwritten.{Unwritten}
 use Rattle.gb_records.specs.declared.fault.Unwritten.TheVariants as unwritten

@@ -9,10 +9,10 @@ use Rattle.gb_plan.specs.Task.{Path}
 use Rattle.gb_history.specs.Record.{Record, IsWellFormed}
 use Rattle.gb_history.specs.Places.{record_place}
 use Rattle.gb_history.specs.Text.{record_text}
-use Rattle.gb_meaning.specs.Events.{max_record}
-use Rattle.gb_meaning.specs.Kinds.{Kinds}
-use Rattle.gb_meaning.specs.Memory.{Memory}
-use Rattle.gb_meaning.specs.TrueRecord.{RecordTexts, HoldsTrue, IsMade}
+use Rattle.gb_semantics.specs.Events.{max_record}
+use Rattle.gb_semantics.specs.Kinds.{Kinds}
+use Rattle.gb_semantics.specs.Memory.{Memory}
+use Rattle.gb_semantics.specs.TrueRecord.{RecordTexts, HoldsTrue, IsMade}
 use Rattle.gb_records.specs.Said.{IsText}
 use Rattle.gb_records.specs.Holding.{HoldsRecords}
 

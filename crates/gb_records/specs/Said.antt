@@ -7,9 +7,9 @@ use Rattle.gb_plan.specs.Task.{Path}
 use Rattle.gb_history.specs.Record.{Record, IsWellFormed}
 use Rattle.gb_history.specs.Text.{IsTextOf}
 use Rattle.gb_history.specs.Places.{record_place}
-use Rattle.gb_meaning.specs.Events.{max_record}
-use Rattle.gb_meaning.specs.Memory.{Entry}
-use Rattle.gb_meaning.specs.TrueRecord.{IsTextOfNoRecord, record_of}
+use Rattle.gb_semantics.specs.Events.{max_record}
+use Rattle.gb_semantics.specs.Memory.{Entry}
+use Rattle.gb_semantics.specs.TrueRecord.{IsTextOfNoRecord, record_of}
 
 -- The bytes are the text of this record of the task, and at most 64 MiB.
 pub record IsText (path : Path) (run : Record) (bytes : Bytes) : Type 0 where

@@ -3,9 +3,9 @@ use Rattle.sha2.specs.Sha256.{sha256}
 use Rattle.gb_folder.specs.Files.{Tearing}
 use Rattle.gb_history.specs.Places.{record_place}
 use Rattle.gb_history.specs.Text.{record_text}
-use Rattle.gb_meaning.specs.Events.{Setting}
-use Rattle.gb_meaning.specs.Headline.{Registering}
-use Rattle.gb_meaning.specs.Kinds.{Kinds}
+use Rattle.gb_semantics.specs.Events.{Setting}
+use Rattle.gb_semantics.specs.Headline.{Registering}
+use Rattle.gb_semantics.specs.Kinds.{Kinds}
 use Rattle.gb_records.specs.Said.{IsText}
 
 -- These are the kinds, scripts register so, and this is what a stopped call may leave.

@@ -7,7 +7,7 @@ ghost use Rattle.gb_folder.specs.Calls.{OnlyReads};
 ghost use Rattle.gb_history.specs.Places.{record_place};
 ghost use Rattle.gb_history.specs.Record.{Record as Recorded};
 ghost use Rattle.gb_history.specs.Text.{unsealed};
-ghost use Rattle.gb_meaning.specs.Events.{max_record};
+ghost use Rattle.gb_semantics.specs.Events.{max_record};
 ghost use Rattle.gb_folder.specs.Changes.{is_at};
 ghost use Rattle.gb_folder.specs.Faults.{Blames, BlamesOnly, IsOfMachine};
 ghost use Rattle.gb_records.specs.Answered.{WasAnswered};

@@ -5,7 +5,7 @@ use Rattle.std.specs.Char.{to_ascii_uppercase}
 use Rattle.gb_core.specs.Place.{is_place, joined}
 use Rattle.gb_core.specs.declared.value.Value.{Value}
 use Rattle.gb_core.specs.declared.value.Value.TheVariants as values
-use Rattle.gb_action.specs.declared.output.Form.TheVariants.{File, Dir}
+use Rattle.gb_action.specs.declared.output_files.Form.TheVariants.{File, Dir}
 use Rattle.gb_action.specs.declared.shape.Arg.TheVariants.{Text, Line}
 use Rattle.gb_action.specs.declared.shape.Parameter.TheVariants.{Required}
 use Rattle.gb_action.specs.declared.shape.Shape.{Shape}

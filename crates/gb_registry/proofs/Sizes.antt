@@ -1,7 +1,7 @@
 -- How large the parts of expressions are.
 use Rattle.std.proofs.Common.{◌≡◌, ℕ, zero, suc, ◌<◌, ◌≤◌, List, [], ◌∷◌, length, map, get_or, ap, arith}
 use Rattle.gb_script.specs.Tree.{Tree, links_of, links_size, link_size, tree_size, trees_of, trees_size}
-use Rattle.gb_script.specs.declared.expression.Step.{Step}
+use Rattle.gb_script.specs.declared.script_expression.Step.{Step}
 use Rattle.gb_script.specs.View.{link_of}
 
 pub element_size : (trees : List Tree) (i : ℕ) (tree : Tree) → i < length trees → tree ≡ get_or trees i tree → tree_size tree ≤ trees_size (trees_of trees)

@@ -19,8 +19,8 @@ use crate::wrong::Scope;
 use gb_action::actions::Actions;
 use gb_provider::transforms::Transforms;
 use gb_report::fault::Fault;
-use gb_script::expression::Expression;
 use gb_script::script::{Assignment, Script, Statement};
+use gb_script::script_expression::Expression;
 use std::alloc::Global;
 
 /// A project with its script.

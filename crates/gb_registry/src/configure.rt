@@ -1,4 +1,5 @@
-//! How a registry is made from what was read.
+//! The steps of `Registry::configure`: scripts get their projects, are checked statement by
+//! statement, and then the tasks that their values name are looked up.
 ghost use Rattle.std.specs.Prelude.{◌≡◌, ◌≤◌, [], ◌++◌, zip, length, IfOk};
 ghost use Rattle.std.specs.List.{flat_map};
 ghost use Rattle.gb_registry.specs.Configure.{configure_faults, each_after, missing_tasks, statement_faults};
@@ -14,9 +15,9 @@ use crate::checking::{Scripted, check_missing, check_scripts};
 use crate::names::Names;
 use crate::project::{Project, copy_folder};
 use crate::projects::ProjectSet;
+use crate::registered::Tasks;
 use crate::so_far::SoFar;
 use crate::tables::Tables;
-use crate::tasks::Tasks;
 use gb_action::actions::Actions;
 use gb_core::path::ProjectPath;
 use gb_core::place::Place;
@@ -54,8 +55,8 @@ fn copy_project(place: &(ProjectPath, Option<Place>)) -> Result<Project, AllocEr
     Ok(Project::new(path, folder))
 }
 
-/// Checks scripts statement by statement. Then it looks up the tasks that their values name among
-/// the tasks that they register.
+/// Checks scripts statement by statement, then looks up the tasks that values name. Returns the
+/// paths of the tasks that the scripts register.
 pub fn checked<A: Actions, T: Transforms>(
     alloc: Global,
     tables: &Tables<A, T>,
@@ -68,7 +69,7 @@ pub fn checked<A: Actions, T: Transforms>(
         (configure_faults (tables_of T.meanings A.meanings tables.now)
         (source_in projects.now scripts.now)) result }
 {
-    let tasks = checked_in_execution(alloc, tables, scripts)?;
+    let tasks = checked_in_order(alloc, tables, scripts)?;
     match check_names(alloc, projects, &tasks, scripts) {
         Ok(()) => Ok(tasks),
         Err(fault) => {
@@ -78,7 +79,7 @@ pub fn checked<A: Actions, T: Transforms>(
     }
 }
 
-fn checked_in_execution<A: Actions, T: Transforms>(
+fn checked_in_order<A: Actions, T: Transforms>(
     alloc: Global,
     tables: &Tables<A, T>,
     scripts: &[Scripted],

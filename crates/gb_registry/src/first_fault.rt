@@ -36,7 +36,7 @@ pub struct FaultAt {
 }
 
 /// The fault for which `Registry::configure` refuses these settings and scripts, and the statement
-/// at which it arises; none if it accepts them. Only memory may run out (3).
+/// at which it arises; none if it accepts them. The only error is lack of memory (3).
 pub fn first_fault<A: Actions, T: Transforms>(
     alloc: Global,
     settings: &Settings,
@@ -45,7 +45,7 @@ pub fn first_fault<A: Actions, T: Transforms>(
 ) -> Result<Option<FaultAt>, Fault>
     requires good { settings_faults settings.now ≡ [] }
     requires one_each { length scripts.items ≡ length (project_paths settings.now) }
-    // It is the fault that is reported.
+    // The fault is the first of the definition, and there is none where that has none.
     ensures first { IfOk result (λ found. option_map (λ at. at.fault) found
         ≡ first_of (configure_faults (tables_of T.meanings A.meanings tables.now)
         (source_of settings.now scripts.items []))) }

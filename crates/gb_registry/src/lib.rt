@@ -15,6 +15,10 @@
 //! against; `Registry::configure_projects` is the same where the projects have been made, as for a
 //! reading of their scripts. It registers no path twice (`paths_are_new`). `first_fault` has the
 //! fault for which it is refused, and the statement at which that arises (`IsFirstAt`).
+//!
+//! Set aside: a look-up of the tasks that values name in the same pass, since a value may name a
+//! task that a later statement or script registers. Out of scope: what a task declares
+//! (`gb_declare`), and the values of its expressions (`gb_project`).
 #![tactic(auto)]
 
 pub mod checking;
@@ -28,9 +32,9 @@ pub mod operands;
 pub mod paths;
 pub mod project;
 pub mod projects;
+mod registered;
 pub mod registry;
 mod so_far;
 pub mod tables;
-mod tasks;
-pub mod texts;
+pub mod unique_texts;
 pub mod wrong;

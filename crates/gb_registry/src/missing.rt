@@ -3,7 +3,7 @@ use crate::names::Names;
 use crate::operands::Look;
 use crate::project::Project;
 use gb_report::fault::Fault;
-use gb_script::expression::{Source, Step};
+use gb_script::script_expression::{Source, Step};
 use std::alloc::Global;
 
 /// Looks up the tasks that an expression of a project names.

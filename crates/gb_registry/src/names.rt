@@ -6,7 +6,7 @@ ghost use Rattle.gb_registry.specs.References.{lookup_faults, name_faults, refer
 
 use crate::paths::absolute;
 use crate::projects::ProjectSet;
-use crate::texts::TextSet;
+use crate::unique_texts::TextSet;
 use gb_core::path::{is_task_path, root_if_empty};
 use gb_core::text::Text;
 use gb_report::fault::Fault;

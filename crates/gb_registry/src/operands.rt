@@ -6,7 +6,7 @@ ghost use Rattle.gb_registry.specs.Faults.{ReportsFirst};
 ghost use Rattle.gb_registry.specs.Wrong.{found_along, found_at, found_by, found_in, found_in_all};
 
 use gb_report::fault::Fault;
-use gb_script::expression::{Expression, Source, Step};
+use gb_script::script_expression::{Expression, Source, Step};
 use std::alloc::Global;
 
 /// The checks at the sources and the steps of expressions.

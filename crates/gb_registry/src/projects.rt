@@ -11,7 +11,7 @@ ghost use Rattle.gb_registry.specs.Projects.{settings_faults, text_faults, texts
 ghost use Rattle.gb_registry.specs.Projects.{with_path, with_paths};
 
 use crate::paths::{absolute, folder_of, project_path};
-use crate::texts::TextSet;
+use crate::unique_texts::TextSet;
 use gb_core::path::{ProjectPath, is_project_path};
 use gb_core::place::Place;
 use gb_core::text::{Text, Texts};

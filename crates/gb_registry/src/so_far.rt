@@ -11,8 +11,8 @@ ghost use Rattle.gb_registry.specs.Wrong.{property_faults};
 
 use crate::paths::path_in;
 use crate::project::Project;
-use crate::tasks::Tasks;
-use crate::texts::TextSet;
+use crate::registered::Tasks;
+use crate::unique_texts::TextSet;
 use crate::wrong::check_property;
 use gb_core::name::{Name, NameFault};
 use gb_core::path::{ProjectPath, TaskPath};

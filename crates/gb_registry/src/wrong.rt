@@ -8,14 +8,14 @@ use crate::names::{Names, check_name};
 use crate::operands::Look;
 use crate::project::Project;
 use crate::tables::Tables;
-use crate::texts::TextSet;
+use crate::unique_texts::TextSet;
 use gb_action::actions::Actions;
 use gb_core::name::Name;
 use gb_core::text::Text;
 use gb_provider::transforms::Transforms;
 use gb_report::fault::Fault;
-use gb_script::expression::{Source, Step};
 use gb_script::function::Function;
+use gb_script::script_expression::{Source, Step};
 use std::alloc::Global;
 
 /// The position of an expression, and what it may name there: functions, properties and tasks.

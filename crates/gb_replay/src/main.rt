@@ -6,6 +6,9 @@
 //! Proved: that the program never panics, and that it ends if its system calls end. `stdin` and
 //! `stdout` are one run of it: `bench/replays.py` makes them of the worked replays in
 //! `bench/replays` and of all examples of the documents.
+//!
+//! Set aside: a test for each example, since a test costs the gate a proof, and a replay costs it
+//! none. Out of scope: a folder on a disk, and calls that fail (`gb_builds_tests`).
 #![tactic(auto)]
 
 use gb_action::table::ActionTable;

@@ -5,7 +5,7 @@ ghost use Rattle.gb_report.specs.Fault.{about_text, fault_number, fault_text, sh
 use gb_core::name::Name;
 use gb_core::path::{ProjectPath, TaskPath};
 use gb_core::place::{Place, RelPath};
-use gb_core::tasks::TaskList;
+use gb_core::task_paths::TaskList;
 use gb_core::text::{Text, Texts};
 use std::alloc::{AllocError, AllocFailed, Global};
 use std::fmt;

@@ -9,8 +9,8 @@ use Rattle.gb_action.specs.Meanings.{Meanings, makes_of, prints_of}
 use Rattle.gb_plan.specs.Ready.{IsReadyAction, Rows}
 use Rattle.gb_plan.specs.declared.task.Action.{Action}
 use Rattle.gb_plan.specs.declared.task.TaskDeclaration.{TaskDeclaration}
-use Rattle.gb_meaning.specs.Headline.{Agrees, AgreesAt}
-use Rattle.gb_meaning.specs.Kinds.{Kinds, kind_of}
+use Rattle.gb_semantics.specs.Headline.{Agrees, AgreesAt}
+use Rattle.gb_semantics.specs.Kinds.{Kinds, kind_of}
 
 pub some_same : {A : Type 0} (x y : A) → Some x ≡ Some y → x ≡ y
 some_same x y e = cc

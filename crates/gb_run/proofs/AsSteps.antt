@@ -3,8 +3,8 @@ use Rattle.std.specs.Prelude.{◌≡◌, ◌++◌, ◌||◌, List, [], ◌∷◌
 use Rattle.std.specs.List.{AllByRecursion, list_any}
 use Rattle.std.proofs.Common.{refl, ap, ap₂, ◌∙◌}
 use Rattle.gb_folder.specs.Files.{Place, Bytes, Files, is_blocked, with_file}
-use Rattle.gb_meaning.specs.Made.{put_over}
-use Rattle.gb_meaning.specs.Run.{has_room}
+use Rattle.gb_semantics.specs.Made.{put_over}
+use Rattle.gb_semantics.specs.Run.{has_room}
 use Rattle.gb_run.specs.Named.{put}
 use Rattle.gb_run.specs.Stepping.{HasRoom}
 use Rattle.gb_run.specs.Steps.{Step, after_steps}

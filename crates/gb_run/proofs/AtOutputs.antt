@@ -14,7 +14,7 @@ use Rattle.gb_plan.proofs.Places.{beneath_under}
 use Rattle.gb_plan.proofs.Tests.{or_true}
 use Rattle.gb_report.specs.declared.fault.Fault.{Fault}
 use Rattle.gb_report.specs.declared.fault.Fault.TheVariants as faults
-use Rattle.gb_meaning.specs.Made.{fault_if, file_faults, full_outputs, output_named, placed, placed_in, put_over}
+use Rattle.gb_semantics.specs.Made.{fault_if, file_faults, full_outputs, output_named, placed, placed_in, put_over}
 use Rattle.gb_run.specs.Placing.{blank, count_faults, faults_beside}
 use Rattle.gb_tree.proofs.Holding.{all_append}
 

@@ -19,8 +19,8 @@ use Rattle.gb_tree.specs.Tree.{path_from}
 use Rattle.gb_tree.proofs.InOrder.{at_root, past_root}
 use Rattle.gb_tree.proofs.Holding.{all_append}
 use Rattle.gb_plan.specs.declared.task.Output.{Output}
-use Rattle.gb_meaning.specs.Made.{output_named, placed, placed_in, put_over}
-use Rattle.gb_meaning.proofs.Lemmas.Files.{at-with, same_place}
+use Rattle.gb_semantics.specs.Made.{output_named, placed, placed_in, put_over}
+use Rattle.gb_semantics.proofs.Lemmas.Files.{at-with, same_place}
 use Rattle.gb_run.specs.Named.{named, put, removed, removed_in}
 use Rattle.gb_run.specs.Steps.{Step, put_steps}
 use Rattle.gb_run.proofs.Looks.{at_others, at_put, steps_append, ties}

@@ -13,8 +13,8 @@ use Rattle.gb_folder.specs.Files.{Place, Bytes, Files, file_at, files_under, is_
 use Rattle.gb_folder.specs.Limits.{max_file, max_files}
 use Rattle.gb_report.specs.declared.fault.Fault.TheVariants as faults
 use Rattle.gb_plan.specs.declared.task.Output.{Output}
-use Rattle.gb_meaning.specs.Made.{fault_if, file_faults, full_outputs, put_over, step_faults}
-use Rattle.gb_meaning.proofs.Lemmas.Files.{at-put_over, at-with, or_else, same_files, sorted-put_over}
+use Rattle.gb_semantics.specs.Made.{fault_if, file_faults, full_outputs, put_over, step_faults}
+use Rattle.gb_semantics.proofs.Lemmas.Files.{at-put_over, at-with, or_else, same_files, sorted-put_over}
 use Rattle.gb_run.specs.Placing.{blank, count_faults, faults_beside}
 
 -- ---- by place

@@ -20,9 +20,9 @@ use Rattle.gb_plan.specs.declared.task.Output.{Output}
 use Rattle.gb_plan.specs.declared.task.TaskDeclaration.{TaskDeclaration as Task}
 use Rattle.gb_plan.proofs.Tests.{neither, none_left, none_right}
 use Rattle.gb_folder.proofs.Free.{free_at}
-use Rattle.gb_meaning.specs.Made.{blocked_in, placed, put_over, rest_of, step_faults}
-use Rattle.gb_meaning.specs.Run.{has_room, step_by, unless_hindered}
-use Rattle.gb_meaning.proofs.Lemmas.Files.{at-put_over, left_of, or_else, right_of, same_place, sorted-put_over}
+use Rattle.gb_semantics.specs.Made.{blocked_in, placed, put_over, rest_of, step_faults}
+use Rattle.gb_semantics.specs.Run.{has_room, step_by, unless_hindered}
+use Rattle.gb_semantics.proofs.Lemmas.Files.{at-put_over, left_of, or_else, right_of, same_place, sorted-put_over}
 use Rattle.gb_run.specs.Placing.{count_faults}
 use Rattle.gb_run.proofs.Agreed.{some_same}
 use Rattle.gb_run.proofs.Placed.{all_after, all_prefix, free_files_of, none_before}

@@ -14,10 +14,10 @@ use Rattle.gb_action.specs.declared.reply.Written.{Written}
 use Rattle.gb_plan.specs.Task.{Text}
 use Rattle.gb_plan.specs.declared.task.Action.{Action}
 use Rattle.gb_plan.specs.declared.task.Output.{Output}
-use Rattle.gb_meaning.specs.Kinds.{kind_of}
-use Rattle.gb_meaning.specs.Made.{placed, put_over, put_result, step_faults}
-use Rattle.gb_meaning.specs.Run.{has_room, step_by}
-use Rattle.gb_meaning.proofs.Lemmas.Files.{sorted-put_over}
+use Rattle.gb_semantics.specs.Kinds.{kind_of}
+use Rattle.gb_semantics.specs.Made.{placed, put_over, put_result, step_faults}
+use Rattle.gb_semantics.specs.Run.{has_room, step_by}
+use Rattle.gb_semantics.proofs.Lemmas.Files.{sorted-put_over}
 use Rattle.gb_run.specs.RunInput.{RunInput, EndsWell, lines_by, run_along}
 use Rattle.gb_run.specs.Failing.{Fails, InFull, RunMode}
 use Rattle.gb_run.specs.Named.{put}

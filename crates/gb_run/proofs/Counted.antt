@@ -6,7 +6,7 @@ use Rattle.gb_folder.specs.Files.{Place, Files, files_under}
 use Rattle.gb_folder.specs.Limits.{max_files}
 use Rattle.gb_report.specs.declared.fault.Fault.TheVariants as faults
 use Rattle.gb_plan.specs.declared.task.Output.{Output}
-use Rattle.gb_meaning.specs.Made.{full_outputs}
+use Rattle.gb_semantics.specs.Made.{full_outputs}
 use Rattle.gb_run.specs.Placing.{count_faults}
 
 -- a test passes no more than there are

@@ -12,8 +12,8 @@ use Rattle.gb_tree.specs.declared.fault.TreeFault.TheVariants as trees
 use Rattle.gb_plan.specs.Task.{output_places}
 use Rattle.gb_plan.specs.declared.task.TaskDeclaration.{TaskDeclaration as Task}
 use Rattle.gb_folder.specs.Changes.{IsCutShort, IsHindered, without_all}
-use Rattle.gb_meaning.specs.Tree.{reported_of_tree}
-use Rattle.gb_meaning.specs.Events.{IsTornInRun, Setting, ExistsInRun}
+use Rattle.gb_semantics.specs.Tree.{reported_of_tree}
+use Rattle.gb_semantics.specs.Events.{IsTornInRun, Setting, ExistsInRun}
 use Rattle.gb_run.specs.Emptying.{places_at}
 use Rattle.gb_run.specs.Laws.{CutEmptyingsInventNothing, TornPlacesAreOfTheEmptying}
 use Rattle.gb_run.proofs.FailedRuns.{left_elsewhere, left_here}

@@ -6,8 +6,8 @@ use Rattle.gb_action.specs.Files.{Trees}
 use Rattle.gb_action.specs.Meanings.{Values}
 use Rattle.gb_plan.specs.declared.task.Action.{Action}
 use Rattle.gb_plan.specs.declared.task.Output.{Output}
-use Rattle.gb_meaning.specs.Kinds.{Kinds, kind_of}
-use Rattle.gb_meaning.specs.Run.{Ended, ends, or_end, step_by, with_done}
+use Rattle.gb_semantics.specs.Kinds.{Kinds, kind_of}
+use Rattle.gb_semantics.specs.Run.{Ended, ends, or_end, step_by, with_done}
 
 -- a run after actions that ended
 abbrev pub following : List Action → Ended → Ended

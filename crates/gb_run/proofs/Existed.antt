@@ -14,10 +14,10 @@ use Rattle.gb_plan.specs.declared.task.TaskDeclaration.{TaskDeclaration as Task}
 use Rattle.gb_plan.proofs.Tests.{none_left, none_right, not_true, or_right}
 use Rattle.gb_tree.specs.Prints.{digests_of}
 use Rattle.gb_tree.specs.Tree.{files_from}
-use Rattle.gb_meaning.specs.Made.{put_over, rest_of}
-use Rattle.gb_meaning.proofs.Lemmas.Ending.{ended_is_made}
-use Rattle.gb_meaning.proofs.Lemmas.Files.{at-put_over, at-where, or_else, same_files, same_place, sorted-put_over, sorted-where}
-use Rattle.gb_meaning.proofs.Lemmas.Making.{made_of_is_right}
+use Rattle.gb_semantics.specs.Made.{put_over, rest_of}
+use Rattle.gb_semantics.proofs.Lemmas.Ending.{ended_is_made}
+use Rattle.gb_semantics.proofs.Lemmas.Files.{at-put_over, at-where, or_else, same_files, same_place, sorted-put_over, sorted-where}
+use Rattle.gb_semantics.proofs.Lemmas.Making.{made_of_is_right}
 use Rattle.gb_run.specs.RunInput.{whole_run, run_input}
 use Rattle.gb_run.specs.Digests.{prints_at}
 use Rattle.gb_run.specs.Laws.{MadeExists}

@@ -15,13 +15,13 @@ use Rattle.gb_action.specs.Files.{Trees}
 use Rattle.gb_plan.specs.Task.{Text, is_output_of}
 use Rattle.gb_plan.specs.declared.task.Action.{Action}
 use Rattle.gb_plan.specs.declared.task.TaskDeclaration.{TaskDeclaration as Task}
-use Rattle.gb_meaning.specs.Kinds.{Kinds, kind_of}
-use Rattle.gb_meaning.specs.Tree.{has_no_source, trees_of}
-use Rattle.gb_meaning.specs.Made.{blocked_in, file_faults, full_outputs, placed, put_over, rest_of, step_faults}
-use Rattle.gb_meaning.specs.Run.{Ended, ends, hindrances, or_end, step_by, unless_hindered}
-use Rattle.gb_meaning.specs.Execution.{IsWritten, lines_of}
-use Rattle.gb_meaning.specs.Events.{IsTornInRun, Setting, ExistsInRun}
-use Rattle.gb_meaning.proofs.Lemmas.Ending.{ended_is_made}
+use Rattle.gb_semantics.specs.Kinds.{Kinds, kind_of}
+use Rattle.gb_semantics.specs.Tree.{has_no_source, trees_of}
+use Rattle.gb_semantics.specs.Made.{blocked_in, file_faults, full_outputs, placed, put_over, rest_of, step_faults}
+use Rattle.gb_semantics.specs.Run.{Ended, ends, hindrances, or_end, step_by, unless_hindered}
+use Rattle.gb_semantics.specs.Execution.{IsWritten, lines_of}
+use Rattle.gb_semantics.specs.Events.{IsTornInRun, Setting, ExistsInRun}
+use Rattle.gb_semantics.proofs.Lemmas.Ending.{ended_is_made}
 use Rattle.gb_run.specs.RunInput.{RunInput, files_at_hand, run_along, whole_run}
 use Rattle.gb_run.specs.Failing.{FailsByItself, InFull, RunState, RunMode, files_then}
 use Rattle.gb_run.specs.Laws.{EndedRunsAreMade, FailedRunsInventNothingInFull, FailedRunsPrintPrefixes, run_input_in}

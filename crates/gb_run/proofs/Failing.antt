@@ -18,15 +18,15 @@ use Rattle.gb_plan.specs.declared.task.Action.{Action}
 use Rattle.gb_plan.specs.declared.task.Output.{Output}
 use Rattle.gb_plan.specs.declared.task.TaskDeclaration.{TaskDeclaration as Task}
 use Rattle.gb_plan.proofs.Tests.{each_all, filter_append}
-use Rattle.gb_meaning.specs.Events.{IsTornInRun, Setting, ExistsInRun}
-use Rattle.gb_meaning.specs.Kinds.{Kinds, kind_of}
-use Rattle.gb_meaning.specs.Label.{has_one_writer}
-use Rattle.gb_meaning.specs.Made.{act, made_of, placed, put_over, rest_of, step_faults}
-use Rattle.gb_meaning.specs.Tree.{has_no_source, trees_of}
-use Rattle.gb_meaning.specs.Execution.{IsWritten}
-use Rattle.gb_meaning.proofs.Lemmas.Ending.{ended_is_made}
-use Rattle.gb_meaning.proofs.Lemmas.Files.{at-put_over, or_else, same_place, sorted-put_over}
-use Rattle.gb_meaning.proofs.Lemmas.Making.{made_of_is_right}
+use Rattle.gb_semantics.specs.Events.{IsTornInRun, Setting, ExistsInRun}
+use Rattle.gb_semantics.specs.Kinds.{Kinds, kind_of}
+use Rattle.gb_semantics.specs.Label.{has_one_writer}
+use Rattle.gb_semantics.specs.Made.{act, made_of, placed, put_over, rest_of, step_faults}
+use Rattle.gb_semantics.specs.Tree.{has_no_source, trees_of}
+use Rattle.gb_semantics.specs.Execution.{IsWritten}
+use Rattle.gb_semantics.proofs.Lemmas.Ending.{ended_is_made}
+use Rattle.gb_semantics.proofs.Lemmas.Files.{at-put_over, or_else, same_place, sorted-put_over}
+use Rattle.gb_semantics.proofs.Lemmas.Making.{made_of_is_right}
 use Rattle.gb_run.specs.Asking.{made_by}
 use Rattle.gb_run.specs.RunInput.{RunInput, files_at_hand, free_files, run_along}
 use Rattle.gb_run.specs.Laws.{FailedRunsInventNothingByChanges, FailedRunsKeepRightFiles, Failure, TornPlacesAreOfTheRun, run_input_in}

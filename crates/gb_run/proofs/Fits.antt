@@ -22,7 +22,7 @@ use Rattle.gb_folder.proofs.Sound.{any_put}
 use Rattle.gb_report.specs.declared.fault.Fault.{Fault}
 use Rattle.gb_report.specs.declared.fault.Fault.TheVariants as faults
 use Rattle.gb_plan.specs.declared.task.Output.{Output}
-use Rattle.gb_meaning.specs.Made.{fault_if, file_faults, put_over}
+use Rattle.gb_semantics.specs.Made.{fault_if, file_faults, put_over}
 use Rattle.gb_run.specs.ChangeTexts.{ByText, Fits, steps_in}
 use Rattle.gb_run.specs.Named.{files_left}
 use Rattle.gb_run.specs.Placing.{blank, count_faults, faults_beside}

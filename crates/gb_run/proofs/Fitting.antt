@@ -7,7 +7,7 @@ use mathlib.Core.Bool.{true≢false}
 use Rattle.gb_core.specs.Lists.{byte_order}
 use Rattle.gb_action.specs.Meanings.{Meanings, WritesItsOutput, shape_of}
 use Rattle.gb_action.specs.Shapes.{args_fit, has_output, has_source, is_form, target}
-use Rattle.gb_action.specs.declared.output.Form.{Form}
+use Rattle.gb_action.specs.declared.output_files.Form.{Form}
 use Rattle.gb_action.specs.declared.reply.Written.{Written}
 use Rattle.gb_action.specs.declared.shape.Fit.TheVariants.{Yes, BadArgument, BadShape}
 use Rattle.gb_action.specs.declared.shape.Shape.{Shape}
@@ -16,9 +16,9 @@ use Rattle.gb_plan.specs.Task.{given_files, given_outputs}
 use Rattle.gb_plan.specs.declared.task.Action.{Action}
 use Rattle.gb_plan.specs.declared.task.Output.{Output}
 use Rattle.gb_plan.specs.declared.task.TaskDeclaration.{TaskDeclaration as Task}
-use Rattle.gb_meaning.specs.Headline.{Agrees, AgreesAt}
-use Rattle.gb_meaning.specs.Kinds.{Kind, Kinds, kind_of}
-use Rattle.gb_meaning.specs.Made.{output_named}
+use Rattle.gb_semantics.specs.Headline.{Agrees, AgreesAt}
+use Rattle.gb_semantics.specs.Kinds.{Kind, Kinds, kind_of}
+use Rattle.gb_semantics.specs.Made.{output_named}
 use Rattle.gb_run.specs.AskingChanges.{IsFitting}
 use Rattle.gb_run.proofs.Agreed.{agrees_found, some_same}
 

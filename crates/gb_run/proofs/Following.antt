@@ -13,7 +13,7 @@ use Rattle.gb_action.specs.Files.{Trees}
 use Rattle.gb_action.specs.Outputs.{exists_at, written_at}
 use Rattle.gb_action.specs.Replies.{FollowsOn}
 use Rattle.gb_action.specs.Shapes.{target}
-use Rattle.gb_action.specs.declared.output.OutputFiles.{OutputFiles}
+use Rattle.gb_action.specs.declared.output_files.OutputFiles.{OutputFiles}
 use Rattle.gb_action.specs.declared.reply.Written.{Written}
 use Rattle.gb_tree.specs.Tree.{files_from}
 use Rattle.gb_plan.specs.Graph.{some_overlap}
@@ -23,9 +23,9 @@ use Rattle.gb_plan.specs.declared.task.Output.{Output}
 use Rattle.gb_plan.specs.declared.task.TaskDeclaration.{TaskDeclaration as Task}
 use Rattle.gb_plan.proofs.Places.{beneath_under, none_under}
 use Rattle.gb_plan.proofs.Tests.{none_left, none_right, or_right}
-use Rattle.gb_meaning.specs.Kinds.{Kinds, kind_of}
-use Rattle.gb_meaning.specs.Made.{output_named, placed, put_over}
-use Rattle.gb_meaning.specs.Memory.{output_files}
+use Rattle.gb_semantics.specs.Kinds.{Kinds, kind_of}
+use Rattle.gb_semantics.specs.Made.{output_named, placed, put_over}
+use Rattle.gb_semantics.specs.Memory.{output_files}
 use Rattle.gb_run.specs.AskingChanges.{GoesOn, IsFitting, request_of, writers}
 use Rattle.gb_run.proofs.AtPaths.{Elsewhere, Here, IsElsewhere, Where, WritesTarget, at_placed, placed_elsewhere, whether}
 use Rattle.gb_run.proofs.Observed.{own_named, observed_at, observed_named}

@@ -13,9 +13,9 @@ use Rattle.gb_plan.specs.declared.task.Action.{Action}
 use Rattle.gb_plan.specs.declared.task.Output.{Output}
 use Rattle.gb_plan.specs.declared.task.TaskDeclaration.{TaskDeclaration as Task}
 use Rattle.gb_plan.proofs.Tests.{any_append, filter_append}
-use Rattle.gb_meaning.specs.Kinds.{Kinds, kind_of}
-use Rattle.gb_meaning.specs.Made.{full_outputs, put_over, rest_of}
-use Rattle.gb_meaning.specs.Run.{step_by, unless_hindered}
+use Rattle.gb_semantics.specs.Kinds.{Kinds, kind_of}
+use Rattle.gb_semantics.specs.Made.{full_outputs, put_over, rest_of}
+use Rattle.gb_semantics.specs.Run.{step_by, unless_hindered}
 use Rattle.gb_run.specs.Asking.{made_by, printed_by}
 use Rattle.gb_run.specs.RunInput.{RunInput, EndsWell, run_input, files_at_hand, free_files, lines_by, run_along}
 use Rattle.gb_run.proofs.Endings.{more_fault, more_held, with_none}

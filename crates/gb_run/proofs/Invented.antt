@@ -15,9 +15,9 @@ use Rattle.gb_action.specs.Meanings.{Values}
 use Rattle.gb_plan.specs.Task.{Text}
 use Rattle.gb_plan.specs.declared.task.Action.{Action}
 use Rattle.gb_plan.specs.declared.task.Output.{Output}
-use Rattle.gb_meaning.specs.Kinds.{Kinds, kind_of}
-use Rattle.gb_meaning.specs.Made.{placed, put_over, step_faults}
-use Rattle.gb_meaning.specs.Run.{ends, hindrances, or_end, step_by, unless_hindered}
+use Rattle.gb_semantics.specs.Kinds.{Kinds, kind_of}
+use Rattle.gb_semantics.specs.Made.{placed, put_over, step_faults}
+use Rattle.gb_semantics.specs.Run.{ends, hindrances, or_end, step_by, unless_hindered}
 use Rattle.gb_run.specs.RunInput.{free_files}
 
 -- ---- elements

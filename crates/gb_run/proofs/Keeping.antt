@@ -11,9 +11,9 @@ use Rattle.gb_plan.specs.Task.{Text}
 use Rattle.gb_plan.specs.declared.task.Action.{Action}
 use Rattle.gb_plan.specs.declared.task.Output.{Output}
 use Rattle.gb_plan.specs.declared.task.TaskDeclaration.{TaskDeclaration as Task}
-use Rattle.gb_meaning.specs.Kinds.{Kinds, kind_of}
-use Rattle.gb_meaning.specs.Made.{act, made_of, placed, put_over, put_result, step_faults}
-use Rattle.gb_meaning.proofs.Lemmas.Files.{sorted-put_over}
+use Rattle.gb_semantics.specs.Kinds.{Kinds, kind_of}
+use Rattle.gb_semantics.specs.Made.{act, made_of, placed, put_over, put_result, step_faults}
+use Rattle.gb_semantics.proofs.Lemmas.Files.{sorted-put_over}
 use Rattle.gb_run.specs.Placing.{blank, faults_beside}
 use Rattle.gb_run.specs.Step.{IsKept}
 use Rattle.gb_run.proofs.Beside.{beside_held, over_by_place, taken_then}

@@ -15,7 +15,7 @@ use Rattle.gb_action.specs.Changes.{Changes}
 use Rattle.gb_action.specs.Files.{Trees}
 use Rattle.gb_action.specs.Outputs.{is_named, is_removed, left_at, exists_at, written_at}
 use Rattle.gb_action.specs.Shapes.{target}
-use Rattle.gb_action.specs.declared.output.OutputFiles.{OutputFiles}
+use Rattle.gb_action.specs.declared.output_files.OutputFiles.{OutputFiles}
 use Rattle.gb_action.specs.declared.reply.OutputPath.{OutputPath}
 use Rattle.gb_action.specs.declared.reply.Reply.{Reply}
 use Rattle.gb_action.specs.declared.reply.Written.{Written}
@@ -23,9 +23,9 @@ use Rattle.gb_plan.specs.Task.{is_output_of}
 use Rattle.gb_plan.specs.declared.task.Output.{Output}
 use Rattle.gb_plan.specs.declared.task.TaskDeclaration.{TaskDeclaration as Task}
 use Rattle.gb_plan.proofs.Tests.{itself, or_true}
-use Rattle.gb_meaning.specs.Kinds.{Kinds, kind_of}
-use Rattle.gb_meaning.specs.Made.{file_faults, fault_if, output_named, placed, put_over, rest_of, step_faults}
-use Rattle.gb_meaning.proofs.Lemmas.Files.{at-put_over, at-where, left_of, or_else, right_of, same_files, same_place, sorted-put_over, sorted-where}
+use Rattle.gb_semantics.specs.Kinds.{Kinds, kind_of}
+use Rattle.gb_semantics.specs.Made.{file_faults, fault_if, output_named, placed, put_over, rest_of, step_faults}
+use Rattle.gb_semantics.proofs.Lemmas.Files.{at-put_over, at-where, left_of, or_else, right_of, same_files, same_place, sorted-put_over, sorted-where}
 use Rattle.gb_run.specs.AskingChanges.{IsFitting}
 use Rattle.gb_run.specs.ChangeLaws.{IsReplied, RepliesAreMade, RepliesLeadOn}
 use Rattle.gb_run.specs.Named.{files_left, held_after, named, put, existing, steps_of}

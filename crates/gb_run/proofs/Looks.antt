@@ -13,7 +13,7 @@ use Rattle.gb_core.specs.Lists.{byte_order}
 use Rattle.gb_core.specs.Place.{is_place}
 use Rattle.gb_folder.specs.Files.{Place, Bytes, Files, file_at, with_left}
 use Rattle.gb_folder.proofs.Changes.{file_at-with_file, file_at-without}
-use Rattle.gb_meaning.proofs.Lemmas.Files.{T_of, left_of, of_T, right_of, same_place}
+use Rattle.gb_semantics.proofs.Lemmas.Files.{T_of, left_of, of_T, right_of, same_place}
 use Rattle.gb_run.specs.Steps.{Step, after_steps, in_step_order, put_steps}
 
 -- ---- tests

@@ -17,8 +17,8 @@ use Rattle.gb_tree.proofs.Under.{IsUnder, under_parts}
 use Rattle.gb_plan.proofs.Places.{beneath_under}
 use Rattle.gb_plan.proofs.Tests.{none_left, none_right, turned}
 use Rattle.gb_plan.specs.declared.task.Output.{Output}
-use Rattle.gb_meaning.specs.Made.{output_named}
-use Rattle.gb_meaning.proofs.Lemmas.Files.{left_of, right_of, same_place}
+use Rattle.gb_semantics.specs.Made.{output_named}
+use Rattle.gb_semantics.proofs.Lemmas.Files.{left_of, right_of, same_place}
 use Rattle.gb_run.specs.AskingChanges.{observed_of}
 use Rattle.gb_run.specs.Named.{put, existing}
 use Rattle.gb_run.specs.Steps.{Step, put_steps}

@@ -9,9 +9,9 @@ use Rattle.gb_folder.specs.Files.{is_empty}
 use Rattle.gb_plan.specs.Ready.{IsReadyAction, Rows}
 use Rattle.gb_plan.specs.declared.task.Action.{Action}
 use Rattle.gb_plan.specs.declared.task.TaskDeclaration.{TaskDeclaration as Task}
-use Rattle.gb_meaning.specs.Headline.{Agrees}
-use Rattle.gb_meaning.specs.Kinds.{Kinds, kind_of}
-use Rattle.gb_meaning.specs.Label.{has_one_writer}
+use Rattle.gb_semantics.specs.Headline.{Agrees}
+use Rattle.gb_semantics.specs.Kinds.{Kinds, kind_of}
+use Rattle.gb_semantics.specs.Label.{has_one_writer}
 use Rattle.gb_run.specs.AskingChanges.{CanGoOn, writers, writes_stored}
 use Rattle.gb_run.proofs.Fitting.{agreed_incremental, agreed_writes}
 

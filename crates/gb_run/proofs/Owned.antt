@@ -8,7 +8,7 @@ use Rattle.gb_core.specs.Lists.{byte_order}
 use Rattle.gb_core.specs.Place.{beneath, is_place, is_under}
 use Rattle.gb_folder.specs.Files.{Place, Bytes, Files, are_placed, file_at, files_where, is_own, places_under, with_file}
 use Rattle.gb_action.specs.Files.{Tree, Trees}
-use Rattle.gb_action.specs.declared.output.OutputFiles.{OutputFiles}
+use Rattle.gb_action.specs.declared.output_files.OutputFiles.{OutputFiles}
 use Rattle.gb_plan.specs.Task.{is_output_of}
 use Rattle.gb_plan.specs.declared.task.Output.{Output}
 use Rattle.gb_plan.specs.declared.task.TaskDeclaration.{TaskDeclaration as Task}
@@ -16,9 +16,9 @@ use Rattle.gb_plan.proofs.Tests.{filter_append, not_false, or_right}
 use Rattle.gb_tree.specs.Prints.{digests_of}
 use Rattle.gb_tree.specs.Tree.{contents_at, entries_from, files_from, path_from}
 use Rattle.gb_tree.proofs.Digests.{sorted_digests}
-use Rattle.gb_meaning.specs.Made.{put_over, rest_of}
-use Rattle.gb_meaning.specs.Memory.{output_files}
-use Rattle.gb_meaning.proofs.Lemmas.Files.{at-where, at-with, same_files, sorted-put_over, sorted-where}
+use Rattle.gb_semantics.specs.Made.{put_over, rest_of}
+use Rattle.gb_semantics.specs.Memory.{output_files}
+use Rattle.gb_semantics.proofs.Lemmas.Files.{at-where, at-with, same_files, sorted-put_over, sorted-where}
 use Rattle.gb_run.proofs.Digested.{files_from_is, from_digests, from_root, where_digests}
 use Rattle.gb_run.specs.AskingChanges.{observed_of}
 use Rattle.gb_run.specs.ChangeDigests.{at_places, digests_at}

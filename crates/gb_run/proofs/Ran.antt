@@ -15,8 +15,8 @@ use Rattle.gb_action.specs.Files.{Trees}
 use Rattle.gb_plan.specs.Task.{Text}
 use Rattle.gb_plan.specs.declared.task.Action.{Action}
 use Rattle.gb_plan.specs.declared.task.TaskDeclaration.{TaskDeclaration as Task}
-use Rattle.gb_meaning.specs.Kinds.{Kinds, kind_of}
-use Rattle.gb_meaning.specs.Made.{put_result}
+use Rattle.gb_semantics.specs.Kinds.{Kinds, kind_of}
+use Rattle.gb_semantics.specs.Made.{put_result}
 use Rattle.gb_run.specs.RunInput.{RunInput, EndsWell, run_input}
 use Rattle.gb_run.specs.Failing.{Fails, InFull, RunMode}
 use Rattle.gb_run.specs.Steps.{Step}

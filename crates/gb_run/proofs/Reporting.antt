@@ -11,7 +11,7 @@ use Rattle.gb_report.specs.declared.fault.Fault.TheVariants as faults
 use Rattle.gb_action.specs.Changes.{Changes}
 use Rattle.gb_action.specs.Files.{Trees}
 use Rattle.gb_action.specs.Replies.{Answers}
-use Rattle.gb_action.specs.declared.output.OutputFiles.{OutputFiles}
+use Rattle.gb_action.specs.declared.output_files.OutputFiles.{OutputFiles}
 use Rattle.gb_action.specs.declared.reply.Reply.{Reply}
 use Rattle.gb_action.specs.declared.reply.Written.{Written}
 use Rattle.gb_plan.specs.Task.{is_output_of}
@@ -20,10 +20,10 @@ use Rattle.gb_plan.specs.declared.task.Output.{Output}
 use Rattle.gb_plan.specs.declared.task.TaskDeclaration.{TaskDeclaration as Task}
 use Rattle.gb_plan.proofs.Tests.{all_at, any_append, filter_append}
 use Rattle.gb_tree.specs.Prints.{digests_of}
-use Rattle.gb_meaning.specs.Kinds.{Kinds, kind_of}
-use Rattle.gb_meaning.specs.Made.{file_faults, full_outputs, made_of, placed, put_over, put_result, rest_of, step_faults}
-use Rattle.gb_meaning.specs.Memory.{output_files}
-use Rattle.gb_meaning.proofs.Lemmas.Files.{sorted-where}
+use Rattle.gb_semantics.specs.Kinds.{Kinds, kind_of}
+use Rattle.gb_semantics.specs.Made.{file_faults, full_outputs, made_of, placed, put_over, put_result, rest_of, step_faults}
+use Rattle.gb_semantics.specs.Memory.{output_files}
+use Rattle.gb_semantics.proofs.Lemmas.Files.{sorted-where}
 use Rattle.gb_run.specs.Asking.{made_by}
 use Rattle.gb_run.specs.Placing.{faults_beside}
 use Rattle.gb_run.proofs.Beside.{beside_held, over_by_place}

@@ -11,8 +11,8 @@ use Rattle.gb_report.specs.declared.fault.Fault.TheVariants as faults
 use Rattle.gb_action.specs.declared.reply.Written.{Written}
 use Rattle.gb_plan.specs.declared.task.Output.{Output}
 use Rattle.gb_plan.proofs.Tests.{any_append, none_left, none_right}
-use Rattle.gb_meaning.specs.Made.{blocked_in, placed, put_over, step_faults}
-use Rattle.gb_meaning.specs.Run.{has_room, hindrances, step_by, unless_hindered}
+use Rattle.gb_semantics.specs.Made.{blocked_in, placed, put_over, step_faults}
+use Rattle.gb_semantics.specs.Run.{has_room, hindrances, step_by, unless_hindered}
 use Rattle.gb_run.specs.RunInput.{free_files}
 use Rattle.gb_run.specs.Placing.{count_faults}
 use Rattle.gb_run.proofs.Placed.{first_more, free_files_of, none_before}

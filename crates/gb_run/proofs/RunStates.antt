@@ -8,7 +8,7 @@ use Rattle.gb_report.specs.declared.fault.Fault.TheVariants as faults
 use Rattle.gb_plan.specs.Task.{Text}
 use Rattle.gb_plan.specs.declared.task.Action.{Action}
 use Rattle.gb_folder.specs.Changes.{IsHindered}
-use Rattle.gb_meaning.specs.Run.{step_by}
+use Rattle.gb_semantics.specs.Run.{step_by}
 use Rattle.gb_run.specs.Asking.{made_by}
 use Rattle.gb_run.specs.RunInput.{RunInput, files_at_hand, lines_by, run_along}
 use Rattle.gb_run.specs.Failing.{AreAtHand, ByChanges, Fails, FailsByItself, InFull, RunState, RunMode, ended_files}

@@ -4,7 +4,7 @@ use Rattle.std.specs.List.{AllByRecursion}
 use Rattle.std.specs.Borrow.{Bor}
 use Rattle.std.proofs.Common.{sym, subst}
 use Rattle.gb_folder.specs.Files.{Bytes, Place}
-use Rattle.gb_action.specs.declared.output.OutputFiles.{OutputFiles}
+use Rattle.gb_action.specs.declared.output_files.OutputFiles.{OutputFiles}
 use Rattle.gb_action.specs.declared.reply.OutputPath.{OutputPath}
 use Rattle.gb_action.specs.declared.reply.Written.{Written}
 use Rattle.gb_plan.specs.declared.task.Output.{Output}

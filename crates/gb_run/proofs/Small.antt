@@ -9,13 +9,13 @@ use Rattle.gb_core.specs.Lists.{byte_order}
 use Rattle.gb_core.specs.Place.{beneath}
 use Rattle.gb_folder.specs.Files.{Place, Bytes, Files, file_at}
 use Rattle.gb_folder.specs.Limits.{max_file}
-use Rattle.gb_action.specs.declared.output.OutputFiles.{OutputFiles}
+use Rattle.gb_action.specs.declared.output_files.OutputFiles.{OutputFiles}
 use Rattle.gb_action.specs.declared.reply.OutputPath.{OutputPath}
 use Rattle.gb_action.specs.declared.reply.Written.{Written}
 use Rattle.gb_plan.specs.declared.task.Output.{Output}
 use Rattle.gb_plan.proofs.Places.{beneath_under}
-use Rattle.gb_meaning.specs.Made.{output_named, placed, placed_in}
-use Rattle.gb_meaning.proofs.Lemmas.Files.{same_place}
+use Rattle.gb_semantics.specs.Made.{output_named, placed, placed_in}
+use Rattle.gb_semantics.proofs.Lemmas.Files.{same_place}
 use Rattle.gb_run.specs.Placing.{faults_beside}
 use Rattle.gb_run.proofs.Agreed.{some_same}
 use Rattle.gb_run.proofs.AtOutputs.{is_at}

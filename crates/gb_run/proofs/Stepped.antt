@@ -8,9 +8,9 @@ use Rattle.gb_action.specs.declared.reply.Written.{Written}
 use Rattle.gb_plan.specs.Task.{Text}
 use Rattle.gb_plan.specs.declared.task.Output.{Output}
 use Rattle.gb_folder.specs.Changes.{IsHindered}
-use Rattle.gb_meaning.specs.Made.{placed, put_over, step_faults}
-use Rattle.gb_meaning.specs.Run.{has_room, step_by}
-use Rattle.gb_meaning.proofs.Lemmas.Files.{sorted-put_over}
+use Rattle.gb_semantics.specs.Made.{placed, put_over, step_faults}
+use Rattle.gb_semantics.specs.Run.{has_room, step_by}
+use Rattle.gb_semantics.proofs.Lemmas.Files.{sorted-put_over}
 use Rattle.gb_run.specs.RunInput.{free_files}
 use Rattle.gb_run.specs.Named.{put}
 use Rattle.gb_run.specs.Placing.{blank, faults_beside}

@@ -9,8 +9,8 @@ use Rattle.gb_tree.specs.Prints.{digests_of}
 use Rattle.gb_plan.specs.Task.{Text}
 use Rattle.gb_plan.specs.declared.task.Action.{Action}
 use Rattle.gb_plan.specs.declared.task.Output.{Output}
-use Rattle.gb_meaning.specs.Kinds.{kind_of}
-use Rattle.gb_meaning.specs.Made.{made_of, placed, put_over, put_result, step_faults}
+use Rattle.gb_semantics.specs.Kinds.{kind_of}
+use Rattle.gb_semantics.specs.Made.{made_of, placed, put_over, put_result, step_faults}
 use Rattle.gb_run.specs.RunInput.{RunInput}
 use Rattle.gb_run.specs.Placing.{faults_beside}
 use Rattle.gb_run.specs.Step.{IsKept}

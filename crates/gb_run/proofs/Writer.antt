@@ -13,10 +13,10 @@ use Rattle.gb_plan.specs.Task.{Text}
 use Rattle.gb_plan.specs.declared.task.Action.{Action}
 use Rattle.gb_plan.specs.declared.task.Output.{Output}
 use Rattle.gb_plan.specs.declared.task.TaskDeclaration.{TaskDeclaration as Task}
-use Rattle.gb_meaning.specs.Kinds.{Kinds, kind_of}
-use Rattle.gb_meaning.specs.Label.{has_one_writer}
-use Rattle.gb_meaning.specs.Made.{act, placed, put_over, put_result, step_faults}
-use Rattle.gb_meaning.proofs.Lemmas.Files.{left_of, right_of}
+use Rattle.gb_semantics.specs.Kinds.{Kinds, kind_of}
+use Rattle.gb_semantics.specs.Label.{has_one_writer}
+use Rattle.gb_semantics.specs.Made.{act, placed, put_over, put_result, step_faults}
+use Rattle.gb_semantics.proofs.Lemmas.Files.{left_of, right_of}
 use Rattle.gb_run.specs.AskingChanges.{IsFitting, KeepsToOwn, writers}
 use Rattle.gb_run.proofs.AtPaths.{WritesTarget}
 

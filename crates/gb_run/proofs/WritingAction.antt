@@ -11,7 +11,7 @@ use Rattle.gb_report.specs.declared.fault.Fault.TheVariants as faults
 use Rattle.gb_action.specs.Changes.{Changes}
 use Rattle.gb_action.specs.Files.{Trees}
 use Rattle.gb_action.specs.Replies.{Answers}
-use Rattle.gb_action.specs.declared.output.OutputFiles.{OutputFiles}
+use Rattle.gb_action.specs.declared.output_files.OutputFiles.{OutputFiles}
 use Rattle.gb_action.specs.declared.reply.Reply.{Reply}
 use Rattle.gb_action.specs.declared.reply.Written.{Written}
 use Rattle.gb_plan.specs.Task.{Text}
@@ -19,9 +19,9 @@ use Rattle.gb_plan.specs.declared.task.Action.{Action}
 use Rattle.gb_plan.specs.declared.task.Output.{Output}
 use Rattle.gb_plan.specs.declared.task.TaskDeclaration.{TaskDeclaration as Task}
 use Rattle.gb_folder.specs.Changes.{IsHindered}
-use Rattle.gb_meaning.specs.Kinds.{Kinds, kind_of}
-use Rattle.gb_meaning.specs.Made.{file_faults, full_outputs, placed, put_over, rest_of, step_faults}
-use Rattle.gb_meaning.specs.Run.{step_by}
+use Rattle.gb_semantics.specs.Kinds.{Kinds, kind_of}
+use Rattle.gb_semantics.specs.Made.{file_faults, full_outputs, placed, put_over, rest_of, step_faults}
+use Rattle.gb_semantics.specs.Run.{step_by}
 use Rattle.gb_run.specs.Asking.{made_by}
 use Rattle.gb_run.specs.RunInput.{free_files}
 use Rattle.gb_run.specs.Placing.{faults_beside}

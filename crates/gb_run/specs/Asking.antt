@@ -7,7 +7,7 @@ use Rattle.gb_action.specs.declared.request.Request.{Request}
 use Rattle.gb_plan.specs.Task.{Text, given_outputs}
 use Rattle.gb_plan.specs.declared.task.Action.{Action}
 use Rattle.gb_plan.specs.declared.task.TaskDeclaration.{TaskDeclaration as Task}
-use Rattle.gb_meaning.specs.Kinds.{Kinds, kind_of}
+use Rattle.gb_semantics.specs.Kinds.{Kinds, kind_of}
 
 -- The request is for the task with these trees and change lists, and not incremental.
 pub record IsFullRequest (task : Task) (trees : Trees) (changes : List Changes)

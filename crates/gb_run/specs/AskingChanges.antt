@@ -11,7 +11,7 @@ use Rattle.gb_action.specs.Files.{Trees}
 use Rattle.gb_action.specs.Meanings.{Meanings, shape_of}
 use Rattle.gb_action.specs.Replies.{DescribesChangesFrom}
 use Rattle.gb_action.specs.Shapes.{target}
-use Rattle.gb_action.specs.declared.output.OutputFiles.{OutputFiles}
+use Rattle.gb_action.specs.declared.output_files.OutputFiles.{OutputFiles}
 use Rattle.gb_action.specs.declared.reply.Written.{Written}
 use Rattle.gb_action.specs.declared.request.Request.{Request}
 use Rattle.gb_tree.specs.Tree.{files_from}
@@ -21,10 +21,10 @@ use Rattle.gb_plan.specs.Task.{output_places}
 use Rattle.gb_plan.specs.declared.task.Action.{Action}
 use Rattle.gb_plan.specs.declared.task.Output.{Output}
 use Rattle.gb_plan.specs.declared.task.TaskDeclaration.{TaskDeclaration as Task}
-use Rattle.gb_meaning.specs.Kinds.{Kinds, kind_of}
-use Rattle.gb_meaning.specs.Label.{has_one_writer}
-use Rattle.gb_meaning.specs.Made.{made_of, output_named}
-use Rattle.gb_meaning.specs.Memory.{output_files}
+use Rattle.gb_semantics.specs.Kinds.{Kinds, kind_of}
+use Rattle.gb_semantics.specs.Label.{has_one_writer}
+use Rattle.gb_semantics.specs.Made.{made_of, output_named}
+use Rattle.gb_semantics.specs.Memory.{output_files}
 
 -- the incremental request with these arguments
 abbrev pub request_of : Task → Trees → List Changes → List OutputFiles → List Value → Request

@@ -15,7 +15,7 @@ use Rattle.gb_plan.specs.declared.task.TaskDeclaration.{TaskDeclaration as Task}
 use Rattle.gb_folder.specs.Changes.{IsCutShort}
 use Rattle.gb_folder.specs.Faults.{IsOfMachine, reported_at}
 use Rattle.gb_folder.specs.Removals.{Removals}
-use Rattle.gb_meaning.specs.Tree.{listing_faults, reported_of_tree}
+use Rattle.gb_semantics.specs.Tree.{listing_faults, reported_of_tree}
 use Rattle.gb_run.specs.Doing.{OrEnds}
 
 -- the place is at or under one of these outputs

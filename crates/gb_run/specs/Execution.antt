@@ -5,13 +5,13 @@ use Rattle.gb_folder.specs.Files.{Files, Tearing}
 use Rattle.gb_report.specs.declared.fault.Fault.{Fault}
 use Rattle.gb_action.specs.Changes.{Changes}
 use Rattle.gb_action.specs.Files.{Trees}
-use Rattle.gb_action.specs.declared.output.OutputFiles.{OutputFiles}
+use Rattle.gb_action.specs.declared.output_files.OutputFiles.{OutputFiles}
 use Rattle.gb_tree.specs.Prints.{digests_of}
 use Rattle.gb_plan.specs.declared.task.Action.{Action}
 use Rattle.gb_plan.specs.declared.task.TaskDeclaration.{TaskDeclaration as Task}
-use Rattle.gb_meaning.specs.Kinds.{Kinds}
-use Rattle.gb_meaning.specs.Made.{full_outputs, put_over, put_result, rest_of}
-use Rattle.gb_meaning.specs.Run.{step_by}
+use Rattle.gb_semantics.specs.Kinds.{Kinds}
+use Rattle.gb_semantics.specs.Made.{full_outputs, put_over, put_result, rest_of}
+use Rattle.gb_semantics.specs.Run.{step_by}
 use Rattle.gb_run.specs.Asking.{made_by}
 use Rattle.gb_run.specs.RunInput.{free_files}
 use Rattle.gb_run.specs.AskingChanges.{GoesOn, IsFitting, writers}

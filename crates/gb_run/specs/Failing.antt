@@ -5,8 +5,8 @@ use Rattle.gb_folder.specs.Files.{Files, Tearing}
 use Rattle.gb_report.specs.declared.fault.Fault.{Fault}
 use Rattle.gb_plan.specs.Task.{Text}
 use Rattle.gb_plan.specs.declared.task.Action.{Action}
-use Rattle.gb_meaning.specs.Kinds.{kind_of}
-use Rattle.gb_meaning.specs.Made.{put_over}
+use Rattle.gb_semantics.specs.Kinds.{kind_of}
+use Rattle.gb_semantics.specs.Made.{put_over}
 use Rattle.gb_run.specs.RunInput.{RunInput, files_at_hand, lines_by, run_along, whole_run}
 use Rattle.gb_run.specs.Named.{put}
 use Rattle.gb_run.specs.Stepping.{FailsByMachine}

@@ -10,12 +10,12 @@ use Rattle.gb_action.specs.Changes.{Changes}
 use Rattle.gb_action.specs.Files.{Trees}
 use Rattle.gb_plan.specs.Task.{Text, is_output_of}
 use Rattle.gb_plan.specs.declared.task.TaskDeclaration.{TaskDeclaration as Task}
-use Rattle.gb_meaning.specs.Kinds.{Kinds}
-use Rattle.gb_meaning.specs.Tree.{has_no_source, trees_of}
-use Rattle.gb_meaning.specs.Made.{made_of, rest_of, with_outputs}
-use Rattle.gb_meaning.specs.Label.{has_one_writer, run_of}
-use Rattle.gb_meaning.specs.Execution.{IsWritten, lines_of}
-use Rattle.gb_meaning.specs.Events.{IsTornInRun, Setting, ExistsInRun}
+use Rattle.gb_semantics.specs.Kinds.{Kinds}
+use Rattle.gb_semantics.specs.Tree.{has_no_source, trees_of}
+use Rattle.gb_semantics.specs.Made.{made_of, rest_of, with_outputs}
+use Rattle.gb_semantics.specs.Label.{has_one_writer, run_of}
+use Rattle.gb_semantics.specs.Execution.{IsWritten, lines_of}
+use Rattle.gb_semantics.specs.Events.{IsTornInRun, Setting, ExistsInRun}
 use Rattle.gb_run.specs.AskingChanges.{IsFitting}
 use Rattle.gb_run.specs.RunInput.{RunInput, EndsWell, run_input}
 use Rattle.gb_run.specs.Digests.{prints_at}

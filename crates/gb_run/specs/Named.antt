@@ -3,11 +3,11 @@ use Rattle.std.specs.Prelude.{◌++◌, List, [], ◌∷◌, map, Option, None, 
 use Rattle.std.specs.List.{flat_map}
 use Rattle.gb_core.specs.Place.{beneath}
 use Rattle.gb_folder.specs.Files.{Place, Bytes, Files}
-use Rattle.gb_action.specs.declared.output.OutputFiles.{OutputFiles}
+use Rattle.gb_action.specs.declared.output_files.OutputFiles.{OutputFiles}
 use Rattle.gb_action.specs.declared.reply.OutputPath.{OutputPath}
 use Rattle.gb_action.specs.declared.reply.Written.{Written}
 use Rattle.gb_plan.specs.declared.task.Output.{Output}
-use Rattle.gb_meaning.specs.Made.{output_named, placed}
+use Rattle.gb_semantics.specs.Made.{output_named, placed}
 use Rattle.gb_run.specs.Steps.{Step, put_steps}
 
 -- a removal under the place of an output

@@ -5,7 +5,7 @@ use Rattle.gb_folder.specs.Files.{Files}
 use Rattle.gb_report.specs.declared.fault.Fault.{Fault}
 use Rattle.gb_report.specs.declared.fault.Fault.TheVariants as faults
 use Rattle.gb_plan.specs.declared.task.Output.{Output}
-use Rattle.gb_meaning.specs.Made.{file_faults, full_outputs, put_over}
+use Rattle.gb_semantics.specs.Made.{file_faults, full_outputs, put_over}
 
 -- the files as empty ones: the places that they take
 abbrev pub blank : Files → Files

@@ -8,10 +8,10 @@ use Rattle.gb_plan.specs.Task.{Text}
 use Rattle.gb_plan.specs.declared.task.Action.{Action}
 use Rattle.gb_plan.specs.declared.task.Output.{Output}
 use Rattle.gb_plan.specs.declared.task.TaskDeclaration.{TaskDeclaration as Task}
-use Rattle.gb_meaning.specs.Kinds.{Kinds}
-use Rattle.gb_meaning.specs.Made.{placed, put_over, step_faults}
-use Rattle.gb_meaning.specs.Run.{Ended, ends}
-use Rattle.gb_meaning.specs.Execution.{lines_of}
+use Rattle.gb_semantics.specs.Kinds.{Kinds}
+use Rattle.gb_semantics.specs.Made.{placed, put_over, step_faults}
+use Rattle.gb_semantics.specs.Run.{Ended, ends}
+use Rattle.gb_semantics.specs.Execution.{lines_of}
 use Rattle.gb_run.specs.Asking.{made_by}
 
 -- What a run depends on: what kinds mean, the task with its trees and its change lists, and the rest of the

@@ -8,8 +8,8 @@ use Rattle.gb_action.specs.declared.reply.Written.{Written}
 use Rattle.gb_tree.specs.Prints.{digests_of}
 use Rattle.gb_plan.specs.Task.{Text}
 use Rattle.gb_plan.specs.declared.task.Output.{Output}
-use Rattle.gb_meaning.specs.Made.{put_over}
-use Rattle.gb_meaning.specs.Run.{step_by}
+use Rattle.gb_semantics.specs.Made.{put_over}
+use Rattle.gb_semantics.specs.Run.{step_by}
 use Rattle.gb_run.specs.RunInput.{free_files}
 use Rattle.gb_run.specs.Named.{put}
 use Rattle.gb_run.specs.Placing.{blank}

@@ -11,7 +11,7 @@ use Rattle.gb_plan.specs.Task.{Text, is_output_of}
 use Rattle.gb_plan.specs.declared.task.Action.{Action}
 use Rattle.gb_plan.specs.declared.task.Output.{Output}
 use Rattle.gb_plan.specs.declared.task.TaskDeclaration.{TaskDeclaration as Task}
-use Rattle.gb_meaning.specs.Made.{placed, put_over, put_result}
+use Rattle.gb_semantics.specs.Made.{placed, put_over, put_result}
 use Rattle.gb_run.specs.Asking.{made_by, printed_by}
 use Rattle.gb_run.specs.RunInput.{RunInput}
 use Rattle.gb_run.specs.Doing.{Does, Ending}

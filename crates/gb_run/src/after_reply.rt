@@ -7,7 +7,7 @@ ghost use Rattle.std.specs.List.{AllByRecursion, flat_map, list_any};
 ghost use Rattle.gb_core.specs.Place.{is_beneath};
 ghost use Rattle.gb_core.specs.Lists.{first_of};
 ghost use Rattle.gb_folder.specs.Limits.{max_files};
-ghost use Rattle.gb_meaning.specs.Made.{file_faults, put_over};
+ghost use Rattle.gb_semantics.specs.Made.{file_faults, put_over};
 ghost use Rattle.gb_run.specs.Placing.{blank, faults_beside};
 ghost use Rattle.gb_run.specs.Named.{files_left};
 ghost use Rattle.gb_run.specs.ChangeTexts.{Fits, steps_in};

@@ -14,7 +14,7 @@ ghost use Rattle.gb_tree.specs.Tree.{files_from, path_from};
 ghost use Rattle.gb_run.specs.Digests.{digests_in, prints_at};
 ghost use Rattle.gb_run.specs.Steps.{after_steps};
 
-use crate::path::path_from;
+use crate::relative::path_from;
 use gb_core::bytes::Bytes;
 use gb_core::place::{Place, RelPath};
 use gb_folder::own::is_own;

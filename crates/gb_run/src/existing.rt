@@ -1,7 +1,7 @@
 //! The digests of what a task's outputs held before its run.
 ghost use Rattle.std.specs.Prelude.{◌≡◌, ◌∷◌, [], IfOk, OnOk, map};
 ghost use Rattle.gb_core.specs.Place.{beneath};
-ghost use Rattle.gb_meaning.specs.Made.{put_over};
+ghost use Rattle.gb_semantics.specs.Made.{put_over};
 ghost use Rattle.gb_run.specs.ChangeDigests.{at_places, digests_at};
 
 use crate::digests::Digests;

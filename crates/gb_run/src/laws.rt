@@ -4,7 +4,7 @@ ghost use Rattle.gb_run.specs.Laws.{FailedRunsInventNothingByChanges, FailedRuns
 ghost use Rattle.gb_run.specs.Laws.{FailedRunsKeepRightFiles, FailedRunsPrintPrefixes, MadeExists};
 ghost use Rattle.gb_run.specs.Laws.{TornPlacesAreOfTheEmptying, TornPlacesAreOfTheRun};
 
-use gb_meaning::laws::Grounds;
+use gb_semantics::laws::Grounds;
 
 /// A run that ended well leaves what the actions make.
 pub fn ended_runs_are_made()

@@ -33,7 +33,6 @@
 #![tactic(auto)]
 
 mod after_reply;
-pub mod by_changes;
 mod calling;
 pub mod calling_changes;
 pub mod change_laws;
@@ -41,12 +40,13 @@ mod digests;
 mod doing;
 pub mod emptying;
 mod existing;
+pub mod full_work;
+pub mod incremental_work;
 pub mod laws;
-mod path;
 mod placing;
 mod planning;
-mod reply;
-pub mod run;
+mod relative;
+mod reply_steps;
 mod step_order;
 pub mod work;
 pub mod work_by_changes;

@@ -10,7 +10,7 @@ ghost use Rattle.std.specs.Option.{option_copied};
 ghost use Rattle.gb_core.specs.Lists.{first_of};
 ghost use Rattle.gb_core.specs.Place.{is_place, beneath};
 ghost use Rattle.gb_folder.specs.Files.{are_placed, with_file};
-ghost use Rattle.gb_meaning.specs.Made.{file_faults, output_named, placed, put_over};
+ghost use Rattle.gb_semantics.specs.Made.{file_faults, output_named, placed, put_over};
 ghost use Rattle.gb_run.specs.Named.{put};
 ghost use Rattle.gb_run.specs.Placing.{blank, count_faults, faults_beside};
 ghost use Rattle.gb_run.specs.Texts.{files_in};

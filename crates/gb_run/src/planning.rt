@@ -8,9 +8,9 @@ ghost use Rattle.gb_run.specs.Steps.{in_step_order};
 ghost use Rattle.gb_run.specs.ChangeTexts.{shown_steps, steps_in};
 
 use crate::after_reply::check_held;
-use crate::reply::{put_existing, put_reply};
+use crate::reply_steps::{put_existing, put_reply};
 use crate::step_order::in_step_order;
-use gb_action::output::OutputFiles;
+use gb_action::output_files::OutputFiles;
 use gb_action::reply::{OutputPath, Written};
 use gb_core::bytes::Bytes;
 use gb_core::place::Place;

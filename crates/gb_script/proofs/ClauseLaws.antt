@@ -17,7 +17,7 @@ use Rattle.gb_script.specs.declared.script.Clause.{Clause}
 use Rattle.gb_script.specs.declared.script.Clause.TheVariants as clauses
 use Rattle.gb_script.specs.Tree.{Tree}
 use Rattle.gb_script.specs.Words.{meaning_in, clause_words}
-use Rattle.gb_script.specs.Grammar.{Leveled, opened, sign, word, tree_spelled, texts_spelled, values_spelled, arguments_spelled, call_spelled, assignment_spelled, condition_spelled, said_spelled, patterns_spelled, input_files_spelled, clause_spelled, block_spelled}
+use Rattle.gb_script.specs.Grammar.{Leveled, opened, sign, word, tree_tokens, texts_tokens, values_tokens, arguments_tokens, call_tokens, assignment_tokens, condition_tokens, said_tokens, patterns_tokens, input_files_tokens, clause_tokens, block_tokens}
 use Rattle.gb_script.specs.Fits.{AreSome, IsTree, AreValues, IsCall, IsAssignment, IsPropertyAssignment, IsCondition, IsInputFiles, IsClause, IsBlock}
 use Rattle.gb_script.specs.Reading.{Reader, ◌>>=◌, is_sign, is_word, skip_at, name_at, property_at, maybe_at, many_at, past_at, list_at, no_matter, made_at, closed_at}
 use Rattle.gb_script.specs.Readers.{tree_at, bracketed_values_at, call_from, call_at, assignment_from, assignment_at, condition_from, condition_at, patterns_at, Flags, Roots, flags_at, roots_at, input_files_from, input_files_at, order_of_at, run_of_at, clause_of_at, clause_at, in_block, block_at}
@@ -36,7 +36,7 @@ abbrev pub arguments_end : List Tree → Option Token → Bool
 arguments_end [] o = stops (is_sign OpenParen) o
 arguments_end (t ∷ ts) o = true
 
-brackets_are : (d : ℕ) (ts : List Tree) → IsGiven IsTree ts → arguments_spelled d ts ≡ opened OpenParen d ∷ (values_spelled (d + 1) ts ++ sign CloseParen ∷ [])
+brackets_are : (d : ℕ) (ts : List Tree) → IsGiven IsTree ts → arguments_tokens d ts ≡ opened OpenParen d ∷ (values_tokens (d + 1) ts ++ sign CloseParen ∷ [])
 brackets_are d [] p = absurd p
 brackets_are d (t ∷ ts) p = refl
 
@@ -49,7 +49,7 @@ one_value = (a_tree ∷ [], ((tt, tt), tt))
 
 module _ (room d : ℕ) (sum : room + d ≡ 64) where
   abbrev brackets : List Tree → List Leveled
-  brackets ts = opened OpenParen d ∷ (values_spelled (d + 1) ts ++ sign CloseParen ∷ [])
+  brackets ts = opened OpenParen d ∷ (values_tokens (d + 1) ts ++ sign CloseParen ∷ [])
 
   Reads-brackets : Reads (IsGiven IsTree) brackets always (bracketed_values_at room)
   unfolding bracketed_values_at
@@ -57,11 +57,11 @@ module _ (room d : ℕ) (sum : room + d ≡ 64) where
       Reads-opened (λ n. closed_at (is_sign CloseParen) (list_at (tree_at n))) OpenParen room d sum one_value
       (λ n e. Reads-closed (tests_sign CloseParen) (Reads-values (d + 1) (tree_at n) (Reads-tree n (d + 1) (omega (arith, e, sum)))) (λ ts p. refl))
 
-  Reads-arguments : Reads (AllByRecursion IsTree) (arguments_spelled d) arguments_end (λ ts. maybe_at (is_sign OpenParen) (bracketed_values_at room) [] ts)
+  Reads-arguments : Reads (AllByRecursion IsTree) (arguments_tokens d) arguments_end (λ ts. maybe_at (is_sign OpenParen) (bracketed_values_at room) [] ts)
   Reads-arguments =
       Reads-maybe (is_sign OpenParen) Reads-brackets []
-      (AllByRecursion IsTree) (arguments_spelled d) arguments_end
-      (λ ts p. record { head = opened OpenParen d; tail = values_spelled (d + 1) ts ++ sign CloseParen ∷ []; whole = refl; passes = refl })
+      (AllByRecursion IsTree) (arguments_tokens d) arguments_end
+      (λ ts p. record { head = opened OpenParen d; tail = values_tokens (d + 1) ts ++ sign CloseParen ∷ []; whole = refl; passes = refl })
       (none_or_given IsTree)
       tt (given_all IsTree)
       refl (brackets_are d)
@@ -77,11 +77,11 @@ a_call = record { name = a_name; arguments = [] }
 pub a_call_fits : IsCall a_call
 a_call_fits = record { name = refl; arguments = tt }
 
-pub Reads-call : (room d : ℕ) → room + d ≡ 64 → Reads IsCall (call_spelled d) call_end (call_at room)
+pub Reads-call : (room d : ℕ) → room + d ≡ 64 → Reads IsCall (call_tokens d) call_end (call_at room)
 unfolding call_at
 Reads-call room d sum =
     Reads-into (Reads-pair Reads-name (Reads-arguments room d sum) ([], tt)) call_from
-    IsCall (call_spelled d) call_end
+    IsCall (call_tokens d) call_end
     (λ c q. ((c.name, c.arguments), refl, (q.name, q.arguments)))
     (λ x p. record { name = p.0; arguments = p.1 })
     (λ x p. refl) (λ x o p. refl)
@@ -104,23 +104,23 @@ abbrev pub an_assignment : Assignment
 an_assignment = record { name = a_name; value = a_tree }
 
 module _ (room d : ℕ) (sum : room + d ≡ 64) where
-  Reads-value : Reads IsTree (λ t. sign Equals ∷ tree_spelled d t) (λ t. no_dot) (λ ts. past_at (is_sign Equals) (tree_at room) ts)
+  Reads-value : Reads IsTree (λ t. sign Equals ∷ tree_tokens d t) (λ t. no_dot) (λ ts. past_at (is_sign Equals) (tree_at room) ts)
   Reads-value = Reads-past (tests_sign Equals) (Reads-tree room d sum) (a_tree, (tt, tt))
 
-  pub Reads-assignment : Reads IsAssignment (assignment_spelled d) assignment_end (assignment_at name_at room)
+  pub Reads-assignment : Reads IsAssignment (assignment_tokens d) assignment_end (assignment_at name_at room)
   unfolding assignment_at
   Reads-assignment =
       Reads-into (Reads-pair Reads-name Reads-value (a_tree, (tt, tt))) assignment_from
-      IsAssignment (assignment_spelled d) assignment_end
+      IsAssignment (assignment_tokens d) assignment_end
       (λ a q. ((a.name, a.value), refl, (q.name, q.value)))
       (λ x p. record { name = p.0; value = p.1 })
       (λ x p. refl) (λ x o p. refl)
 
-  pub Reads-property_assignment : Reads IsPropertyAssignment (assignment_spelled d) assignment_end (assignment_at property_at room)
+  pub Reads-property_assignment : Reads IsPropertyAssignment (assignment_tokens d) assignment_end (assignment_at property_at room)
   unfolding assignment_at
   Reads-property_assignment =
       Reads-into (Reads-pair Reads-property Reads-value (a_tree, (tt, tt))) assignment_from
-      IsPropertyAssignment (assignment_spelled d) assignment_end
+      IsPropertyAssignment (assignment_tokens d) assignment_end
       (λ a q. ((a.name, a.value), refl, (q.name, q.value)))
       (λ x p. record { name = p.0; value = p.1 })
       (λ x p. refl) (λ x o p. refl)
@@ -134,11 +134,11 @@ condition_end c o = function_end c.test o
 abbrev a_condition : Condition
 a_condition = record { value = a_tree; test = a_function }
 
-Reads-condition : (room d : ℕ) → room + d ≡ 64 → Reads IsCondition (condition_spelled d) condition_end (condition_at room)
+Reads-condition : (room d : ℕ) → room + d ≡ 64 → Reads IsCondition (condition_tokens d) condition_end (condition_at room)
 unfolding condition_at
 Reads-condition room d sum =
     Reads-into (Reads-pair (Reads-tree room d sum) (Reads-past (tests_word (codes "is")) (Reads-function room d sum) (a_function, refl)) (a_function, refl)) condition_from
-    IsCondition (condition_spelled d) condition_end
+    IsCondition (condition_tokens d) condition_end
     (λ c q. ((c.value, c.test), refl, (q.value, q.test)))
     (λ x p. record { value = p.0; test = p.1 })
     (λ x p. refl) (λ x o p. refl)
@@ -153,7 +153,7 @@ none_or_patterns : (ts : List (List ℕ)) → (ts ≡ []) ⊎ AreSome ts
 none_or_patterns [] = inl refl
 none_or_patterns (t ∷ ts) = inr tt
 
-patterns_are : (w : List ℕ) (ts : List (List ℕ)) → AreSome ts → patterns_spelled w ts ≡ word w ∷ texts_spelled ts
+patterns_are : (w : List ℕ) (ts : List (List ℕ)) → AreSome ts → patterns_tokens w ts ≡ word w ∷ texts_tokens ts
 patterns_are w [] p = absurd p
 patterns_are w (t ∷ ts) p = refl
 
@@ -161,24 +161,24 @@ patterns_same : (w : List ℕ) (ts : List (List ℕ)) (o : Option Token) → Are
 patterns_same w [] o p = absurd p
 patterns_same w (t ∷ ts) o p = refl
 
-Reads-patterns : (w : List ℕ) → Reads IsAny (patterns_spelled w) (patterns_end w) (patterns_at w)
+Reads-patterns : (w : List ℕ) → Reads IsAny (patterns_tokens w) (patterns_end w) (patterns_at w)
 unfolding patterns_at
 Reads-patterns w =
     Reads-maybe (is_word w) (Reads-past (tests_word w) Reads-texts (one_text, tt)) []
-    IsAny (patterns_spelled w) (patterns_end w)
-    (λ ts p. record { head = word w; tail = texts_spelled ts; whole = refl; passes = (tests_word w).same })
+    IsAny (patterns_tokens w) (patterns_end w)
+    (λ ts p. record { head = word w; tail = texts_tokens ts; whole = refl; passes = (tests_word w).same })
     (λ ts p. none_or_patterns ts)
     tt (λ ts p. tt)
     refl (patterns_are w)
     (λ o. refl) (patterns_same w)
 
 abbrev flags_marks : Flags → List Leveled
-flags_marks x = said_spelled (codes "incremental") x.0 ++ (said_spelled (codes "skipWhenEmpty") x.1.0 ++ said_spelled (codes "nameOnly") x.1.1)
+flags_marks x = said_tokens (codes "incremental") x.0 ++ (said_tokens (codes "skipWhenEmpty") x.1.0 ++ said_tokens (codes "nameOnly") x.1.1)
 
 abbrev flags_end : Flags → Option Token → Bool
 flags_end x o =
-    said_end (codes "incremental") x.0 (first_or (said_spelled (codes "skipWhenEmpty") x.1.0 ++ said_spelled (codes "nameOnly") x.1.1) o)
-    && (said_end (codes "skipWhenEmpty") x.1.0 (first_or (said_spelled (codes "nameOnly") x.1.1) o) && said_end (codes "nameOnly") x.1.1 o)
+    said_end (codes "incremental") x.0 (first_or (said_tokens (codes "skipWhenEmpty") x.1.0 ++ said_tokens (codes "nameOnly") x.1.1) o)
+    && (said_end (codes "skipWhenEmpty") x.1.0 (first_or (said_tokens (codes "nameOnly") x.1.1) o) && said_end (codes "nameOnly") x.1.1 o)
 
 Reads-flags : Reads (λ x. IsAny x.0 × (IsAny x.1.0 × IsAny x.1.1)) flags_marks flags_end flags_at
 unfolding flags_at
@@ -196,12 +196,12 @@ flags_close (false, (false, true)) = refl
 flags_close (false, (false, false)) = refl
 
 abbrev roots_marks : ℕ → Roots → List Leveled
-roots_marks d x = values_spelled d x.0 ++ (patterns_spelled (codes "include") x.1.0 ++ patterns_spelled (codes "exclude") x.1.1)
+roots_marks d x = values_tokens d x.0 ++ (patterns_tokens (codes "include") x.1.0 ++ patterns_tokens (codes "exclude") x.1.1)
 
 abbrev pub roots_end : Roots → Option Token → Bool
 roots_end x o =
-    row_end no_dot (first_or (patterns_spelled (codes "include") x.1.0 ++ patterns_spelled (codes "exclude") x.1.1) o)
-    && (patterns_end (codes "include") x.1.0 (first_or (patterns_spelled (codes "exclude") x.1.1) o) && patterns_end (codes "exclude") x.1.1 o)
+    row_end no_dot (first_or (patterns_tokens (codes "include") x.1.0 ++ patterns_tokens (codes "exclude") x.1.1) o)
+    && (patterns_end (codes "include") x.1.0 (first_or (patterns_tokens (codes "exclude") x.1.1) o) && patterns_end (codes "exclude") x.1.1 o)
 
 abbrev AreRoots : Roots → Type 0
 AreRoots x = IsGiven IsTree x.0 × (IsAny x.1.0 × IsAny x.1.1)
@@ -235,8 +235,8 @@ values_given [] p = p
 values_given (t ∷ ts) p = p
 
 -- the parts as one row
-files_are : (d : ℕ) (i : InputFiles) → input_files_spelled d i ≡ word i.name ∷ (flags_marks (flags_of i) ++ word (codes "from") ∷ roots_marks d (roots_of i))
-files_are d i = regroup (said_spelled (codes "incremental") i.incremental) (said_spelled (codes "skipWhenEmpty") i.skip_when_empty) (said_spelled (codes "nameOnly") i.name_only) (values_spelled d i.from) (patterns_spelled (codes "include") i.include) (patterns_spelled (codes "exclude") i.exclude)
+files_are : (d : ℕ) (i : InputFiles) → input_files_tokens d i ≡ word i.name ∷ (flags_marks (flags_of i) ++ word (codes "from") ∷ roots_marks d (roots_of i))
+files_are d i = regroup (said_tokens (codes "incremental") i.incremental) (said_tokens (codes "skipWhenEmpty") i.skip_when_empty) (said_tokens (codes "nameOnly") i.name_only) (values_tokens d i.from) (patterns_tokens (codes "include") i.include) (patterns_tokens (codes "exclude") i.exclude)
   where
     regroup : (a b c e f g : List Leveled) → word i.name ∷ a ++ b ++ c ++ word (codes "from") ∷ e ++ f ++ g ≡ word i.name ∷ ((a ++ (b ++ c)) ++ word (codes "from") ∷ (e ++ (f ++ g)))
     regroup a b c e f g =
@@ -244,13 +244,13 @@ files_are d i = regroup (said_spelled (codes "incremental") i.incremental) (said
         ap (λ (l : List Leveled). word i.name ∷ l)
         (append_assoc (((a ++ b) ++ c) ++ from) f g ∙ append_assoc ((a ++ b) ++ c) from (f ++ g) ∙ ap (λ (l : List Leveled). l ++ (from ++ (f ++ g))) (append_assoc a b c))
 
-pub Reads-input_files : (room d : ℕ) → room + d ≡ 64 → Reads IsInputFiles (input_files_spelled d) input_files_end (input_files_at room)
+pub Reads-input_files : (room d : ℕ) → room + d ≡ 64 → Reads IsInputFiles (input_files_tokens d) input_files_end (input_files_at room)
 unfolding input_files_at
 Reads-input_files room d sum =
     Reads-into
     (Reads-pair Reads-name (Reads-pair Reads-flags (Reads-past (tests_word (codes "from")) (Reads-roots room d sum) (some_roots, (((tt, tt), tt), (tt, tt)))) (some_roots, (((tt, tt), tt), (tt, tt)))) (((false, (false, false)), some_roots), ((tt, (tt, tt)), (((tt, tt), tt), (tt, tt)))))
     input_files_from
-    IsInputFiles (input_files_spelled d) input_files_end
+    IsInputFiles (input_files_tokens d) input_files_end
     (λ i q. ((i.name, (flags_of i, roots_of i)), refl, (q.name, ((tt, (tt, tt)), (given_values i.from q.from, (tt, tt))))))
     (λ x p. record { name = p.0; from = values_given x.1.1.0 p.1.1.0 })
     (λ x p. files_are d (input_files_from x))
@@ -301,21 +301,21 @@ word_of (clauses.UpToDateWhen x) = words.Run runs.UpToDateWhen
 word_of (clauses.Enabled x) = words.Run runs.Enabled
 
 -- a clause without its word
-abbrev tail_spelled : ℕ → Clause → List Leveled
-tail_spelled d (clauses.Input x) = assignment_spelled d x
-tail_spelled d (clauses.InputFiles x) = input_files_spelled d x
-tail_spelled d (clauses.OutputFile x) = assignment_spelled d x
-tail_spelled d (clauses.OutputDir x) = assignment_spelled d x
-tail_spelled d (clauses.DependsOn x) = texts_spelled x
-tail_spelled d (clauses.MustRunAfter x) = texts_spelled x
-tail_spelled d (clauses.FinalizedBy x) = texts_spelled x
-tail_spelled d (clauses.DoFirst x) = call_spelled d x
-tail_spelled d (clauses.DoLast x) = call_spelled d x
-tail_spelled d (clauses.OnlyIf x) = condition_spelled d x
-tail_spelled d (clauses.UpToDateWhen x) = condition_spelled d x
-tail_spelled d (clauses.Enabled x) = tree_spelled d x
+abbrev tail_tokens : ℕ → Clause → List Leveled
+tail_tokens d (clauses.Input x) = assignment_tokens d x
+tail_tokens d (clauses.InputFiles x) = input_files_tokens d x
+tail_tokens d (clauses.OutputFile x) = assignment_tokens d x
+tail_tokens d (clauses.OutputDir x) = assignment_tokens d x
+tail_tokens d (clauses.DependsOn x) = texts_tokens x
+tail_tokens d (clauses.MustRunAfter x) = texts_tokens x
+tail_tokens d (clauses.FinalizedBy x) = texts_tokens x
+tail_tokens d (clauses.DoFirst x) = call_tokens d x
+tail_tokens d (clauses.DoLast x) = call_tokens d x
+tail_tokens d (clauses.OnlyIf x) = condition_tokens d x
+tail_tokens d (clauses.UpToDateWhen x) = condition_tokens d x
+tail_tokens d (clauses.Enabled x) = tree_tokens d x
 
-clause_is : (d : ℕ) (c : Clause) → clause_spelled d c ≡ word (clause_spelling (word_of c)) ∷ tail_spelled d c
+clause_is : (d : ℕ) (c : Clause) → clause_tokens d c ≡ word (clause_spelling (word_of c)) ∷ tail_tokens d c
 clause_is d (clauses.Input x) = refl
 clause_is d (clauses.InputFiles x) = refl
 clause_is d (clauses.OutputFile x) = refl
@@ -414,10 +414,10 @@ some_clause (words.Run runs.UpToDateWhen) = (clauses.UpToDateWhen a_condition, (
 some_clause (words.Run runs.Enabled) = (clauses.Enabled a_tree, (a_tree, refl, (tt, tt)))
 
 -- a clause made of what comes after its word
-made_clause : {A : Type 0} {P : A → Type 0} {m : A → List Leveled} {e : A → Option Token → Bool} {r : Reader A} (d : ℕ) → Reads P m e r → (f : A → Clause) → ((x : A) → tail_spelled d (f x) ≡ m x) → ((x : A) (o : Option Token) → clause_end (f x) o ≡ e x o) → Reads (λ c. (x : A) × (c ≡ f x) × P x) (tail_spelled d) clause_end (made_at f r)
-made_clause {A} {P} d R f same ends = Reads-into R f (λ c. (x : A) × (c ≡ f x) × P x) (tail_spelled d) clause_end (λ c q. q) (λ x p. (x, refl, p)) (λ x p. same x) (λ x o p. ends x o)
+made_clause : {A : Type 0} {P : A → Type 0} {m : A → List Leveled} {e : A → Option Token → Bool} {r : Reader A} (d : ℕ) → Reads P m e r → (f : A → Clause) → ((x : A) → tail_tokens d (f x) ≡ m x) → ((x : A) (o : Option Token) → clause_end (f x) o ≡ e x o) → Reads (λ c. (x : A) × (c ≡ f x) × P x) (tail_tokens d) clause_end (made_at f r)
+made_clause {A} {P} d R f same ends = Reads-into R f (λ c. (x : A) × (c ≡ f x) × P x) (tail_tokens d) clause_end (λ c q. q) (λ x p. (x, refl, p)) (λ x p. same x) (λ x o p. ends x o)
 
-Reads-clause_of : (room d : ℕ) → room + d ≡ 64 → (k : ClauseWord) → Reads (IsOf k) (tail_spelled d) clause_end (clause_of_at room k)
+Reads-clause_of : (room d : ℕ) → room + d ≡ 64 → (k : ClauseWord) → Reads (IsOf k) (tail_tokens d) clause_end (clause_of_at room k)
 unfolding clause_of_at order_of_at run_of_at
 Reads-clause_of room d sum words.Input = made_clause d (Reads-assignment room d sum) clauses.Input (λ x. refl) (λ x o. refl)
 Reads-clause_of room d sum words.InputFiles = made_clause d (Reads-input_files room d sum) clauses.InputFiles (λ x. refl) (λ x o. refl)
@@ -432,16 +432,16 @@ Reads-clause_of room d sum (words.Run runs.OnlyIf) = made_clause d (Reads-condit
 Reads-clause_of room d sum (words.Run runs.UpToDateWhen) = made_clause d (Reads-condition room d sum) clauses.UpToDateWhen (λ x. refl) (λ x o. refl)
 Reads-clause_of room d sum (words.Run runs.Enabled) = made_clause d (Reads-tree room d sum) clauses.Enabled (λ x. refl) (λ x o. refl)
 
-pub Reads-clause : (room d : ℕ) → room + d ≡ 64 → Reads IsClause (clause_spelled d) clause_end (clause_at room)
+pub Reads-clause : (room d : ℕ) → room + d ≡ 64 → Reads IsClause (clause_tokens d) clause_end (clause_at room)
 unfolding clause_at
 Reads-clause room d sum =
     Reads-bind {r2 = clause_of_at room}
     (Reads-meaning clause_words clause_spelling (refl, (refl, (refl, (refl, (refl, (refl, (refl, (refl, (refl, (refl, (refl, (refl, tt)))))))))))) clause_means words.Input) (λ k p. Reads-clause_of room d sum k)
     (λ k p. some_clause k)
-    IsClause (clause_spelled d) clause_end
+    IsClause (clause_tokens d) clause_end
     which_clause
     (λ k c p q. is_clause k c q)
-    (λ k c p q. clause_is d c ∙ ap (λ (j : ClauseWord). word (clause_spelling j) ∷ tail_spelled d c) (same_word k c q))
+    (λ k c p q. clause_is d c ∙ ap (λ (j : ClauseWord). word (clause_spelling j) ∷ tail_tokens d c) (same_word k c q))
     (λ k c o p q h. (refl, h))
     (λ k c o p q h g. g)
 
@@ -489,16 +489,16 @@ word_calm (words.Run runs.OnlyIf) = record { dot = refl; comma = refl; paren = r
 word_calm (words.Run runs.UpToDateWhen) = record { dot = refl; comma = refl; paren = refl; include = refl; exclude = refl }
 word_calm (words.Run runs.Enabled) = record { dot = refl; comma = refl; paren = refl; include = refl; exclude = refl }
 
-next_calm : (d : ℕ) (cs : List Clause) → Calm (first_or (flat_map (clause_spelled d) cs) (Some (Mark CloseBrace)))
+next_calm : (d : ℕ) (cs : List Clause) → Calm (first_or (flat_map (clause_tokens d) cs) (Some (Mark CloseBrace)))
 next_calm d [] = record { dot = refl; comma = refl; paren = refl; include = refl; exclude = refl }
-next_calm d (c ∷ cs) = subst (λ (l : List Leveled). Calm (first_or (l ++ flat_map (clause_spelled d) cs) (Some (Mark CloseBrace)))) (sym (clause_is d c)) (word_calm (word_of c))
+next_calm d (c ∷ cs) = subst (λ (l : List Leveled). Calm (first_or (l ++ flat_map (clause_tokens d) cs) (Some (Mark CloseBrace)))) (sym (clause_is d c)) (word_calm (word_of c))
 
-clauses_close : (d : ℕ) (cs : List Clause) → ends_all (clause_spelled d) clause_end in_block cs (Some (Mark CloseBrace)) ≡ true
+clauses_close : (d : ℕ) (cs : List Clause) → ends_all (clause_tokens d) clause_end in_block cs (Some (Mark CloseBrace)) ≡ true
 clauses_close d [] = refl
 clauses_close d (c ∷ cs) = and_true _ _ (clause_ends c _ (next_calm d cs)) (clauses_close d cs)
 
-clause_begun : (d : ℕ) (c : Clause) → Begun in_block (clause_spelled d c)
-clause_begun d c = record { head = word (clause_spelling (word_of c)); tail = tail_spelled d c; whole = clause_is d c; passes = refl }
+clause_begun : (d : ℕ) (c : Clause) → Begun in_block (clause_tokens d c)
+clause_begun d c = record { head = word (clause_spelling (word_of c)); tail = tail_tokens d c; whole = clause_is d c; passes = refl }
 
 pub all_of : {A : Type 0} (P : A → Type 0) (xs : List A) → AllFrom {S = Unit {0}} (λ s. P) no_matter tt xs → AllByRecursion P xs
 all_of P [] p = tt
@@ -512,7 +512,7 @@ abbrev AreClauses : List Clause → Type 0
 AreClauses cs = AllFrom {S = Unit {0}} (λ s. IsClause) no_matter tt cs
 
 abbrev closed_marks : ℕ → List Clause → List Leveled
-closed_marks d cs = flat_map (clause_spelled d) cs ++ sign CloseBrace ∷ []
+closed_marks d cs = flat_map (clause_tokens d) cs ++ sign CloseBrace ∷ []
 
 Reads-clauses_close : (room d : ℕ) → room + d ≡ 64 → Reads AreClauses (closed_marks d) always (λ ts. many_at in_block no_matter (λ s. clause_at room) (length ts) tt ts >>= λ clauses. skip_at (is_sign CloseBrace) clauses.1 >>= λ rest. Ok (clauses.0, rest))
 Reads-clauses_close room d sum =
@@ -526,9 +526,9 @@ Reads-clauses_close room d sum =
     (λ a b o p q h. (clauses_close d a, refl))
     (λ a b o p q h g. refl)
 
-pub Reads-block : (room d : ℕ) → room + d ≡ 64 → Reads IsBlock (block_spelled d) always (block_at room)
+pub Reads-block : (room d : ℕ) → room + d ≡ 64 → Reads IsBlock (block_tokens d) always (block_at room)
 unfolding block_at
 Reads-block room d sum =
-    Reads-as (Reads-skip (tests_sign OpenBrace) (Reads-clauses_close room d sum) ([], tt)) IsBlock (block_spelled d) always
+    Reads-as (Reads-skip (tests_sign OpenBrace) (Reads-clauses_close room d sum) ([], tt)) IsBlock (block_tokens d) always
     (all_of IsClause) (of_all IsClause)
     (λ cs p. refl) (λ cs o p. refl)

@@ -7,7 +7,7 @@ use Rattle.gb_script.specs.declared.token.Token.{Token}
 use Rattle.gb_script.specs.declared.token.Token.TheVariants.{Word, Mark}
 use Rattle.gb_script.specs.declared.token_fault.Fault.TheVariants.{Stray, Deep}
 use Rattle.gb_script.specs.Lexing.{begins}
-use Rattle.gb_script.specs.Grammar.{Leveled, tokens_of, said_spelled}
+use Rattle.gb_script.specs.Grammar.{Leveled, tokens_of, said_tokens}
 use Rattle.gb_script.specs.Reading.{Reader, ◌>>=◌, is_word, skip_at, maybe_at, past_at, pair_at, made_at, closed_at, opened_at, said_at}
 use Rattle.gb_script.proofs.Runs.{cases_bool}
 use Rattle.gb_script.proofs.Readers.{Reads, Taken, StrayIn, DeepIn, always, first_or, Reads-done, Reads-bind}
@@ -252,14 +252,14 @@ said_is w ts =
       | inr y ↦ rw y refl
     ]
 
-pub Reads-said : (w : List ℕ) → Reads IsAny (said_spelled w) (said_end w) (said_at w)
+pub Reads-said : (w : List ℕ) → Reads IsAny (said_tokens w) (said_end w) (said_at w)
 Reads-said w =
     Reads-same
     (Reads-maybe (is_word w) (Reads-skip (tests_word w) (Reads-done true) (true, refl)) false
-    IsAny (said_spelled w) (said_end w)
+    IsAny (said_tokens w) (said_end w)
     (λ a p. record { head = (Word w, 0); tail = []; whole = refl; passes = (tests_word w).same })
     (λ a p. said_either a)
     tt (λ a p. tt)
-    refl (λ a p. ap (said_spelled w) p)
+    refl (λ a p. ap (said_tokens w) p)
     (λ o. refl) (λ a o p. ap (λ (x : Bool). said_end w x o) p))
     (said_at w) (said_is w)

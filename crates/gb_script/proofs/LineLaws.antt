@@ -14,7 +14,7 @@ use Rattle.gb_script.specs.declared.script.Statement.{Statement}
 use Rattle.gb_script.specs.declared.script.Statement.TheVariants as statements
 use Rattle.gb_script.specs.Lexing.{begins}
 use Rattle.gb_script.specs.Words.{statement_words, meaning_in}
-use Rattle.gb_script.specs.Grammar.{Leveled, tokens_of, sign, action_spelled, clause_spelled, statement_spelled}
+use Rattle.gb_script.specs.Grammar.{Leveled, tokens_of, sign, action_tokens, clause_tokens, statement_tokens}
 use Rattle.gb_script.specs.Reading.{Reader, ◌>>=◌, stray, is_sign, is_any, no_matter, skip_at, name_at, property_at, text_at, found_at, meaning_at, many_at, list_at, pair_at, all_at}
 use Rattle.gb_script.specs.Readers.{in_block, clause_at, block_at, action_at, assignment_at, registration_from, registration_at, configuration_from, configuration_at, property_of_at, statement_of_at, statement_at, script_at}
 use Rattle.gb_script.specs.Lines.{clauses_in, before_clauses}
@@ -160,7 +160,7 @@ module _ (line : ℕ → ℕ) where
   clause_first c n = line n
 
   abbrev pub clause_firsts : List Clause → ℕ → List ℕ
-  clause_firsts cs n = firsts clause_first (clause_spelled 0) cs n
+  clause_firsts cs n = firsts clause_first (clause_tokens 0) cs n
 
   abbrev in_braces : List Clause → ℕ → List ℕ
   in_braces cs n = clause_firsts cs (n - 1)
@@ -173,7 +173,7 @@ module _ (line : ℕ → ℕ) where
   clause_same ts = refl
 
   clauses_same : (ts : List Token) → many_at in_block no_matter (λ s. clause_line_at line 64) (length ts) tt ts ≡ (many_at in_block no_matter (λ s. clause_at 64) (length ts) tt ts >>= applied clause_firsts (length ts))
-  clauses_same ts = many_same in_block (clause_spelled 0) clause_first (clause_at 64) (clause_line_at line 64) clause_same (read_size (Reads-clause 64 0 refl)) (length ts) ts
+  clauses_same ts = many_same in_block (clause_tokens 0) clause_first (clause_at 64) (clause_line_at line 64) clause_same (read_size (Reads-clause 64 0 refl)) (length ts) ts
 
   abbrev close : {B : Type 0} → B × List Token → Result (B × List Token) Fault
   close x = skip_at (is_sign CloseBrace) x.1 >>= λ rest. Ok (x.0, rest)
@@ -211,7 +211,7 @@ module _ (line : ℕ → ℕ) where
   with_line n x = Ok ((line n, x.0), x.1)
 
   abbrev script_firsts : List Statement → ℕ → List (ℕ × List ℕ)
-  script_firsts ss n = firsts statement_first (statement_spelled 0) ss n
+  script_firsts ss n = firsts statement_first (statement_tokens 0) ss n
 
   abbrev done_q : List (ℕ × List ℕ) × List Token → Result (List (ℕ × List ℕ)) Fault
   done_q x = cond (eqb (length x.1) 0) (Ok x.0) (stray x.1)
@@ -233,7 +233,7 @@ module _ (line : ℕ → ℕ) where
     where
       here : (x : List ℕ × List Token) (y : Option Call × List Token) (cs : List Clause) → name_at ts ≡ Ok x → action_at 64 x.1 ≡ Ok y → length y.1 - 1 ≡ length ts + 1 - length (before_clauses (statements.Register (registration_from (x.0, (y.0, cs)))))
       here x y cs is was =
-          omega (arith, read_size Reads-name ts x.1 x.0 is, read_size (Reads-action 64 0 refl) x.1 y.1 y.0 was, length-append (action_spelled 0 y.0) (sign OpenBrace ∷ []))
+          omega (arith, read_size Reads-name ts x.1 x.0 is, read_size (Reads-action 64 0 refl) x.1 y.1 y.0 was, length-append (action_tokens 0 y.0) (sign OpenBrace ∷ []))
 
   configuration_same : (ts : List Token) → configuration_lines_at line 64 ts ≡ (statement_of_at 64 words.Named ts >>= applied after_word (length ts))
   unfolding configuration_lines_at statement_of_at configuration_at
@@ -273,19 +273,19 @@ module _ (line : ℕ → ℕ) where
       here : (w : StatementWord × List Token) → meaning_at statement_words ts ≡ Ok w → length w.1 + 1 ≡ length ts
       here w is = word_size ts w is
 
-  pub script_same : (ts : List Token) → script_lines_at line ts ≡ (script_at ts >>= applied (firsts statement_first (statement_spelled 0)) (length ts))
+  pub script_same : (ts : List Token) → script_lines_at line ts ≡ (script_at ts >>= applied (firsts statement_first (statement_tokens 0)) (length ts))
   unfolding script_lines_at script_at
-  script_same ts = many_same is_any (statement_spelled 0) statement_first (statement_at 64) (statement_lines_at line 64) statement_same (read_size (Reads-statement 64 0 refl)) (length ts) ts
+  script_same ts = many_same is_any (statement_tokens 0) statement_first (statement_at 64) (statement_lines_at line 64) statement_same (read_size (Reads-statement 64 0 refl)) (length ts) ts
 
   -- all of a script
-  pub whole_same : (ts : List Token) → all_at (script_lines_at line) ts ≡ (all_at script_at ts >>= λ s. Ok (firsts statement_first (statement_spelled 0) s (length ts)))
+  pub whole_same : (ts : List Token) → all_at (script_lines_at line) ts ≡ (all_at script_at ts >>= λ s. Ok (firsts statement_first (statement_tokens 0) s (length ts)))
   unfolding all_at
   whole_same ts =
       ap (λ z. z >>= done_q) (script_same ts)
-      ∙ assoc (script_at ts) (applied (firsts statement_first (statement_spelled 0)) (length ts)) done_q
+      ∙ assoc (script_at ts) (applied (firsts statement_first (statement_tokens 0)) (length ts)) done_q
       ∙ bind_same (script_at ts) _ _ (λ x is. by_end (eqb (length x.1) 0) x)
-      ∙ sym (assoc (script_at ts) done_r (λ s. Ok (firsts statement_first (statement_spelled 0) s (length ts))))
+      ∙ sym (assoc (script_at ts) done_r (λ s. Ok (firsts statement_first (statement_tokens 0) s (length ts))))
     where
-      by_end : (b : Bool) (x : List Statement × List Token) → cond b (Ok (firsts statement_first (statement_spelled 0) x.0 (length ts))) (stray x.1) ≡ (cond b (Ok x.0) (stray x.1) >>= λ s. Ok (firsts statement_first (statement_spelled 0) s (length ts)))
+      by_end : (b : Bool) (x : List Statement × List Token) → cond b (Ok (firsts statement_first (statement_tokens 0) x.0 (length ts))) (stray x.1) ≡ (cond b (Ok x.0) (stray x.1) >>= λ s. Ok (firsts statement_first (statement_tokens 0) s (length ts)))
       by_end true x = refl
       by_end false x = refl

@@ -11,7 +11,7 @@ use Rattle.gb_script.specs.declared.script.Clause.{Clause}
 use Rattle.gb_script.specs.declared.script.Statement.{Statement}
 use Rattle.gb_script.specs.Lexing.{Placed}
 use Rattle.gb_script.specs.Scanning.{scan}
-use Rattle.gb_script.specs.Grammar.{Leveled, clause_spelled, statement_spelled, script_spelled}
+use Rattle.gb_script.specs.Grammar.{Leveled, clause_tokens, statement_tokens, script_tokens}
 use Rattle.gb_script.specs.Fits.{IsScript}
 use Rattle.gb_script.specs.Notation.{tokens_in, line_of, IsSaid}
 use Rattle.gb_script.specs.Reporting.{line_left, fault_reported}
@@ -21,7 +21,7 @@ use Rattle.gb_script.specs.Lines.{each_from, clauses_in, before_clauses, stateme
 use Rattle.gb_script.specs.LineReaders.{script_lines_at}
 use Rattle.gb_script.proofs.Readers.{bind_ok, bind_err, ok_is}
 use Rattle.gb_script.proofs.StatementLaws.{Reads-script, script_ends_text}
-use Rattle.gb_script.proofs.Sources.{line_is, spells_text, reported_stop}
+use Rattle.gb_script.proofs.Sources.{line_is, parses_text, reported_stop}
 use Rattle.gb_script.proofs.Pieces.{tokens_again}
 use Rattle.gb_script.proofs.LineLaws.{firsts, clause_first, clause_firsts, statement_first, whole_same}
 
@@ -49,8 +49,8 @@ module _ (bytes : List ℕ) (short : length bytes ≤ 1048576) (utf8 : IsUtf8 by
       cut_at : (k : ℕ) (prefix rest : List Placed) → all ≡ prefix ++ rest → all ≡ (prefix ++ take k rest) ++ drop k rest
       cut_at k prefix rest h = h ∙ ap (λ (l : List Placed). prefix ++ l) (sym (take-append-drop k rest)) ∙ sym (append_assoc prefix (take k rest) (drop k rest))
 
-  clauses_lines : (cs : List Clause) (prefix rest : List Placed) → all ≡ prefix ++ rest → clause_firsts line cs (length rest) ≡ each_from (λ c. line_of bytes) (clause_spelled 0) cs rest
-  clauses_lines cs prefix rest h = each_same (clause_spelled 0) (clause_first line) (λ c. line_of bytes) (λ c. line_same) cs prefix rest h
+  clauses_lines : (cs : List Clause) (prefix rest : List Placed) → all ≡ prefix ++ rest → clause_firsts line cs (length rest) ≡ each_from (λ c. line_of bytes) (clause_tokens 0) cs rest
+  clauses_lines cs prefix rest h = each_same (clause_tokens 0) (clause_first line) (λ c. line_of bytes) (λ c. line_same) cs prefix rest h
 
   one_statement : (s : Statement) (prefix rest : List Placed) → all ≡ prefix ++ rest → statement_first line s (length rest) ≡ statement_lines bytes s rest
   one_statement s prefix rest h =
@@ -62,15 +62,15 @@ module _ (bytes : List ℕ) (short : length bytes ≤ 1048576) (utf8 : IsUtf8 by
       cut_at : (k : ℕ) → all ≡ (prefix ++ take k rest) ++ drop k rest
       cut_at k = h ∙ ap (λ (l : List Placed). prefix ++ l) (sym (take-append-drop k rest)) ∙ sym (append_assoc prefix (take k rest) (drop k rest))
 
-  statements_lines : (ss : List Statement) → firsts (statement_first line) (statement_spelled 0) ss (length all) ≡ script_lines bytes ss all
-  statements_lines ss = each_same (statement_spelled 0) (statement_first line) (statement_lines bytes) one_statement ss [] all refl
+  statements_lines : (ss : List Statement) → firsts (statement_first line) (statement_tokens 0) ss (length all) ≡ script_lines bytes ss all
+  statements_lines ss = each_same (statement_tokens 0) (statement_first line) (statement_lines bytes) one_statement ss [] all refl
 
 -- ---- from the steps of the code to its result
 
 module _ (bytes text : List ℕ) (same : text ≡ bytes) (short : length bytes ≤ 1048576) (utf8 : IsUtf8 bytes) (tokens : List Token) (lines : List ℕ)
     (tokens_are : tokens ≡ tokens_in (scan 1 text)) (lines_are : lines ≡ lines_of (scan 1 text)) where
   abbrev firsts_of : List ℕ → List ℕ → ℕ → List Statement → List (ℕ × List ℕ)
-  firsts_of b ls n script = firsts (statement_first (line_left b ls)) (statement_spelled 0) script n
+  firsts_of b ls n script = firsts (statement_first (line_left b ls)) (statement_tokens 0) script n
 
   count_is : length tokens ≡ length (scan 1 bytes)
   count_is = ap length (tokens_are ∙ ap (λ b. tokens_in (scan 1 b)) same) ∙ length-map (scan 1 bytes) (λ (p : Placed). p.0)
@@ -85,7 +85,7 @@ module _ (bytes text : List ℕ) (same : text ≡ bytes) (short : length bytes �
   pub lines_found : (found : List (ℕ × List ℕ)) → all_at (script_lines_at (line_left text lines)) tokens ≡ Ok found → AreLinesOf bytes found
   lines_found found h =
       let x = bind_ok (all_at script_at tokens) (λ s. Ok (firsts_of text lines (length tokens) s)) found (sym (whole_same (line_left text lines) tokens) ∙ h) in
-      let s = spells_text Reads-script script_ends_text bytes text same short utf8 tokens x.0 tokens_are x.1 in
+      let s = parses_text Reads-script script_ends_text bytes text same short utf8 tokens x.0 tokens_are x.1 in
       record {
         script = x.0;
         spells = s;
@@ -100,5 +100,5 @@ module _ (bytes text : List ℕ) (same : text ≡ bytes) (short : length bytes �
         | inr x ↦ absurd (let no = x.2 in cc)
       ]
 
-  pub lines_fault : (stop : Stop) (fault : ScriptFault) → Fails stop (all_at (script_lines_at (line_left text lines)) tokens) → fault ≡ fault_reported text lines stop → (fault ≡ OutOfMemory) ⊎ IsSaid IsScript script_spelled bytes (Err fault)
+  pub lines_fault : (stop : Stop) (fault : ScriptFault) → Fails stop (all_at (script_lines_at (line_left text lines)) tokens) → fault ≡ fault_reported text lines stop → (fault ≡ OutOfMemory) ⊎ IsSaid IsScript script_tokens bytes (Err fault)
   lines_fault stop fault fails f = reported_stop Reads-script script_ends_text bytes text same short utf8 tokens lines stop fault tokens_are lines_are (fails_as_script stop fails) f

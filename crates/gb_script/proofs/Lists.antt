@@ -5,7 +5,7 @@ use Rattle.std.specs.List.{flat_map}
 use Rattle.gb_script.specs.declared.token.Sign.TheVariants.{Comma}
 use Rattle.gb_script.specs.declared.token.Token.{Token}
 use Rattle.gb_script.specs.declared.token.Token.TheVariants.{Mark}
-use Rattle.gb_script.specs.Grammar.{Leveled, list_spelled}
+use Rattle.gb_script.specs.Grammar.{Leveled, list_tokens}
 use Rattle.gb_script.specs.Reading.{Reader, ◌>>=◌, is_sign, many_at, past_at, list_at, no_matter}
 use Rattle.gb_script.proofs.Readers.{Reads, Reads-bind, Reads-made, first_or}
 use Rattle.gb_script.proofs.Singles.{Reads-skip, tests_sign}
@@ -46,14 +46,14 @@ module _ {A : Type 0} {P : A → Type 0} {m : A → List Leveled} {e : A → Opt
   list_split [] p = absurd p
   list_split (x ∷ xs) p = (x, p.0, (refl, p.1))
 
-  pub Reads-list : Reads IsList (list_spelled m) list_ends (list_at r)
+  pub Reads-list : Reads IsList (list_tokens m) list_ends (list_at r)
   unfolding list_at
   Reads-list =
       Reads-bind {r2 = λ a ts. many_at (is_sign Comma) no_matter (λ s. past_at (is_sign Comma) r) (length ts) tt ts >>= λ others. Ok (a ∷ others.0, others.1)} R (λ a p. Reads-after a)
       (λ a p. (a ∷ [], (refl, tt)))
-      IsList (list_spelled m) list_ends
+      IsList (list_tokens m) list_ends
       list_split
       (λ a l p q. subst IsList (sym q.0) (p, q.1))
-      (λ a l p q. ap (list_spelled m) q.0)
+      (λ a l p q. ap (list_tokens m) q.0)
       (λ a l o p q h. both_true _ _ (ap (λ (l : List A). list_ends l o) (sym q.0) ∙ h))
       (λ a l o p q h g. ap (λ (l : List A). list_ends l o) q.0 ∙ and_true _ _ h g)

@@ -18,7 +18,7 @@ use Rattle.gb_script.specs.Grammar.{Leveled}
 use Rattle.gb_script.specs.Verdict.{IsFirstStray, IsFirstDeep}
 use Rattle.gb_script.specs.Reading.{Reader, Fails, all_at}
 use Rattle.gb_script.specs.Reporting.{line_left, fault_reported}
-use Rattle.gb_script.specs.Notation.{tokens_in, IsSource, IsSpelled, line_of, IsSyntaxFault, IsDepthFault, IsSaid}
+use Rattle.gb_script.specs.Notation.{tokens_in, IsSource, ParsesTo, line_of, IsSyntaxFault, IsDepthFault, IsSaid}
 use Rattle.gb_script.proofs.Whole.{all_found, all_again, all_stray, all_deep}
 use Rattle.gb_script.proofs.Runs.{cases_bool}
 use Rattle.gb_script.proofs.Verdicts.{stray_again, deep_again}
@@ -72,10 +72,10 @@ module _ {A : Type 0} {P : A → Type 0} {m : A → List Leveled} {e : A → Opt
     source_is : IsSource bytes (scan 1 bytes)
     source_is = record { short = short; utf8 = utf8; has = tokens_found bytes }
 
-    pub spells_found : (tokens : List Token) (script : A) → tokens ≡ tokens_in (scan 1 bytes) → all_at r tokens ≡ Ok script → IsSpelled P m bytes script
+    pub spells_found : (tokens : List Token) (script : A) → tokens ≡ tokens_in (scan 1 bytes) → all_at r tokens ≡ Ok script → ParsesTo P m bytes script
     spells_found tokens script t h =
         let f = all_found R ends_text tokens script h in
-        record { tokens = scan 1 bytes; source = source_is; spelled_so = sym t ∙ f.1; within = f.2; is = f.0 }
+        record { tokens = scan 1 bytes; source = source_is; tokens_are = sym t ∙ f.1; within = f.2; is = f.0 }
 
     pub line_is : (n : ℕ) (lines : List ℕ) (prefix rest : List Placed) → lines ≡ map (λ p. p.1) (scan 1 bytes) → scan 1 bytes ≡ prefix ++ rest → n ≡ length (tokens_in rest) → get_or lines (length lines - n) (1 + newlines bytes) ≡ line_of bytes rest
     line_is n lines prefix rest l w h =
@@ -109,9 +109,9 @@ module _ {A : Type 0} {P : A → Type 0} {m : A → List Leveled} {e : A → Opt
         }
 
   -- what the bytes parse as is read
-  pub spells_again : (bytes : List ℕ) (tokens : List Token) (script : A) → tokens ≡ tokens_in (scan 1 bytes) → IsSpelled P m bytes script → all_at r tokens ≡ Ok script
+  pub spells_again : (bytes : List ℕ) (tokens : List Token) (script : A) → tokens ≡ tokens_in (scan 1 bytes) → ParsesTo P m bytes script → all_at r tokens ≡ Ok script
   spells_again bytes tokens script t s =
-      all_again R ends_text tokens script s.is (t ∙ ap tokens_in (sym (tokens_again bytes s.tokens s.source.has)) ∙ s.spelled_so) s.within
+      all_again R ends_text tokens script s.is (t ∙ ap tokens_in (sym (tokens_again bytes s.tokens s.source.has)) ∙ s.tokens_are) s.within
 
   -- ---- the bytes have one meaning
 
@@ -163,8 +163,8 @@ module _ {A : Type 0} {P : A → Type 0} {m : A → List Leveled} {e : A → Opt
   -- ---- from the steps of the code to its result
 
   module _ (bytes text : List ℕ) (same : text ≡ bytes) (short : length bytes ≤ 1048576) (utf8 : IsUtf8 bytes) where
-    pub spells_text : (tokens : List Token) (script : A) → tokens ≡ tokens_in (scan 1 text) → all_at r tokens ≡ Ok script → IsSpelled P m bytes script
-    spells_text tokens script t h = spells_found bytes short utf8 tokens script (t ∙ ap (λ b. tokens_in (scan 1 b)) same) h
+    pub parses_text : (tokens : List Token) (script : A) → tokens ≡ tokens_in (scan 1 text) → all_at r tokens ≡ Ok script → ParsesTo P m bytes script
+    parses_text tokens script t h = spells_found bytes short utf8 tokens script (t ∙ ap (λ b. tokens_in (scan 1 b)) same) h
 
     pub reported_stop : (tokens : List Token) (lines : List ℕ) (stop : Stop) (fault : ScriptFault) → tokens ≡ tokens_in (scan 1 text) → lines ≡ lines_of text → Fails stop (all_at r tokens) → fault ≡ fault_reported text lines stop → (fault ≡ OutOfMemory) ⊎ IsSaid P m bytes (Err fault)
     reported_stop tokens lines stops.Memory fault t l h f = inl f

@@ -13,7 +13,7 @@ use Rattle.gb_script.specs.declared.script.Configuration.{Configuration}
 use Rattle.gb_script.specs.declared.script.Statement.{Statement}
 use Rattle.gb_script.specs.declared.script.Statement.TheVariants as statements
 use Rattle.gb_script.specs.Words.{meaning_in, statement_words}
-use Rattle.gb_script.specs.Grammar.{Leveled, sign, word, texts_spelled, call_spelled, assignment_spelled, action_spelled, registration_spelled, configuration_spelled, statement_spelled, script_spelled, include_spelled, settings_spelled}
+use Rattle.gb_script.specs.Grammar.{Leveled, sign, word, texts_tokens, call_tokens, assignment_tokens, action_tokens, registration_tokens, configuration_tokens, statement_tokens, script_tokens, include_tokens, settings_tokens}
 use Rattle.gb_script.specs.Fits.{IsProperty, AreSome, IsCall, IsPropertyAssignment, IsAction, IsRegistration, IsConfiguration, IsStatement, IsScript, IsSettings}
 use Rattle.gb_script.specs.Reading.{Reader, is_sign, is_any, no_matter, made_at}
 use Rattle.gb_script.specs.Readers.{action_at, registration_from, registration_at, configuration_from, configuration_at, property_of_at, statement_of_at, statement_at, script_at, include_at, settings_at}
@@ -42,7 +42,7 @@ IsThere (Some c) = IsCall c
 -- the part after the colon
 abbrev after_colon : ℕ → Option Call → List Leveled
 after_colon d None = []
-after_colon d (Some c) = call_spelled d c
+after_colon d (Some c) = call_tokens d c
 
 abbrev there_end : Option Call → Option Token → Bool
 there_end None o = true
@@ -60,7 +60,7 @@ there_action : (a : Option Call) → IsThere a → IsAction a
 there_action None p = tt
 there_action (Some c) p = p
 
-there_marks : (d : ℕ) (a : Option Call) → IsThere a → action_spelled d a ≡ sign Colon ∷ after_colon d a
+there_marks : (d : ℕ) (a : Option Call) → IsThere a → action_tokens d a ≡ sign Colon ∷ after_colon d a
 there_marks d None p = absurd p
 there_marks d (Some c) p = refl
 
@@ -68,12 +68,12 @@ there_same : (a : Option Call) (o : Option Token) → IsThere a → action_end a
 there_same None o p = absurd p
 there_same (Some c) o p = refl
 
-pub Reads-action : (room d : ℕ) → room + d ≡ 64 → Reads IsAction (action_spelled d) action_end (action_at room)
+pub Reads-action : (room d : ℕ) → room + d ≡ 64 → Reads IsAction (action_tokens d) action_end (action_at room)
 unfolding action_at
 Reads-action room d sum =
     let made = Reads-into (Reads-call room d sum) call_action IsThere (after_colon d) there_end there_split (λ c p. p) (λ c p. refl) (λ c o p. refl) in
     Reads-maybe (is_sign Colon) (Reads-past (tests_sign Colon) made (Some a_call, a_call_fits)) None
-    IsAction (action_spelled d) action_end
+    IsAction (action_tokens d) action_end
     (λ a p. record { head = sign Colon; tail = after_colon d a; whole = refl; passes = refl })
     none_or_there
     tt there_action
@@ -92,21 +92,21 @@ a_registration = record { name = a_name; action = None; block = [] }
 abbrev a_configuration : Configuration
 a_configuration = record { name = a_name; block = [] }
 
-Reads-registration : (room d : ℕ) → room + d ≡ 64 → Reads IsRegistration (registration_spelled d) always (registration_at room)
+Reads-registration : (room d : ℕ) → room + d ≡ 64 → Reads IsRegistration (registration_tokens d) always (registration_at room)
 unfolding registration_at
 Reads-registration room d sum =
     Reads-into (Reads-pair Reads-name (Reads-pair (Reads-action room d sum) (Reads-block room d sum) ([], tt)) ((None, []), (tt, tt))) registration_from
-    IsRegistration (registration_spelled d) always
+    IsRegistration (registration_tokens d) always
     (λ r q. ((r.name, (r.action, r.block)), refl, (q.name, (q.action, q.block))))
     (λ x p. record { name = p.0; action = p.1.0; block = p.1.1 })
     (λ x p. refl)
     (λ x o p. sym (and_true _ _ (action_closes x.1.0) refl))
 
-Reads-configuration : (room d : ℕ) → room + d ≡ 64 → Reads IsConfiguration (configuration_spelled d) always (configuration_at room)
+Reads-configuration : (room d : ℕ) → room + d ≡ 64 → Reads IsConfiguration (configuration_tokens d) always (configuration_at room)
 unfolding configuration_at
 Reads-configuration room d sum =
     Reads-into (Reads-pair Reads-name (Reads-block room d sum) ([], tt)) configuration_from
-    IsConfiguration (configuration_spelled d) always
+    IsConfiguration (configuration_tokens d) always
     (λ c q. ((c.name, c.block), refl, (q.name, q.block)))
     (λ x p. record { name = p.0; block = p.1 })
     (λ x p. refl) (λ x o p. refl)
@@ -144,17 +144,17 @@ word_of (statements.Register x) = words.Register
 word_of (statements.Named x) = words.Named
 
 -- a statement without its word
-abbrev tail_spelled : ℕ → Statement → List Leveled
-tail_spelled d (statements.DefaultTasks x) = texts_spelled x
-tail_spelled d (statements.Property x) = word x ∷ []
-tail_spelled d (statements.Set x) = assignment_spelled d x
-tail_spelled d (statements.Convention x) = assignment_spelled d x
-tail_spelled d (statements.Unset x) = word x ∷ []
-tail_spelled d (statements.DisallowChanges x) = word x ∷ []
-tail_spelled d (statements.Register x) = registration_spelled d x
-tail_spelled d (statements.Named x) = configuration_spelled d x
+abbrev tail_tokens : ℕ → Statement → List Leveled
+tail_tokens d (statements.DefaultTasks x) = texts_tokens x
+tail_tokens d (statements.Property x) = word x ∷ []
+tail_tokens d (statements.Set x) = assignment_tokens d x
+tail_tokens d (statements.Convention x) = assignment_tokens d x
+tail_tokens d (statements.Unset x) = word x ∷ []
+tail_tokens d (statements.DisallowChanges x) = word x ∷ []
+tail_tokens d (statements.Register x) = registration_tokens d x
+tail_tokens d (statements.Named x) = configuration_tokens d x
 
-statement_is : (d : ℕ) (s : Statement) → statement_spelled d s ≡ word (statement_spelling (word_of s)) ∷ tail_spelled d s
+statement_is : (d : ℕ) (s : Statement) → statement_tokens d s ≡ word (statement_spelling (word_of s)) ∷ tail_tokens d s
 statement_is d (statements.DefaultTasks x) = refl
 statement_is d (statements.Property x) = refl
 statement_is d (statements.Set x) = refl
@@ -225,10 +225,10 @@ some_statement words.Register = (statements.Register a_registration, (a_registra
 some_statement words.Named = (statements.Named a_configuration, (a_configuration, refl, record { name = refl; block = tt }))
 
 -- a statement made of the part after its word
-made_statement : {A : Type 0} {P : A → Type 0} {m : A → List Leveled} {e : A → Option Token → Bool} {r : Reader A} (d : ℕ) → Reads P m e r → (f : A → Statement) → ((x : A) → tail_spelled d (f x) ≡ m x) → ((x : A) (o : Option Token) → statement_end (f x) o ≡ e x o) → Reads (λ s. (x : A) × (s ≡ f x) × P x) (tail_spelled d) statement_end (made_at f r)
-made_statement {A} {P} d R f same ends = Reads-into R f (λ s. (x : A) × (s ≡ f x) × P x) (tail_spelled d) statement_end (λ s q. q) (λ x p. (x, refl, p)) (λ x p. same x) (λ x o p. ends x o)
+made_statement : {A : Type 0} {P : A → Type 0} {m : A → List Leveled} {e : A → Option Token → Bool} {r : Reader A} (d : ℕ) → Reads P m e r → (f : A → Statement) → ((x : A) → tail_tokens d (f x) ≡ m x) → ((x : A) (o : Option Token) → statement_end (f x) o ≡ e x o) → Reads (λ s. (x : A) × (s ≡ f x) × P x) (tail_tokens d) statement_end (made_at f r)
+made_statement {A} {P} d R f same ends = Reads-into R f (λ s. (x : A) × (s ≡ f x) × P x) (tail_tokens d) statement_end (λ s q. q) (λ x p. (x, refl, p)) (λ x p. same x) (λ x o p. ends x o)
 
-Reads-statement_of : (room d : ℕ) → room + d ≡ 64 → (k : StatementWord) → Reads (IsOf k) (tail_spelled d) statement_end (statement_of_at room k)
+Reads-statement_of : (room d : ℕ) → room + d ≡ 64 → (k : StatementWord) → Reads (IsOf k) (tail_tokens d) statement_end (statement_of_at room k)
 unfolding statement_of_at property_of_at
 Reads-statement_of room d sum words.DefaultTasks = made_statement d (Reads-texts) statements.DefaultTasks (λ x. refl) (λ x o. refl)
 Reads-statement_of room d sum (words.Property properties.Declare) = made_statement d (Reads-property) statements.Property (λ x. refl) (λ x o. refl)
@@ -239,33 +239,33 @@ Reads-statement_of room d sum (words.Property properties.DisallowChanges) = made
 Reads-statement_of room d sum words.Register = made_statement d (Reads-registration room d sum) statements.Register (λ x. refl) (λ x o. refl)
 Reads-statement_of room d sum words.Named = made_statement d (Reads-configuration room d sum) statements.Named (λ x. refl) (λ x o. refl)
 
-pub Reads-statement : (room d : ℕ) → room + d ≡ 64 → Reads IsStatement (statement_spelled d) statement_end (statement_at room)
+pub Reads-statement : (room d : ℕ) → room + d ≡ 64 → Reads IsStatement (statement_tokens d) statement_end (statement_at room)
 unfolding statement_at
 Reads-statement room d sum =
     Reads-bind {r2 = statement_of_at room}
     (Reads-meaning statement_words statement_spelling (refl, (refl, (refl, (refl, (refl, (refl, (refl, (refl, tt)))))))) statement_means (words.Property properties.Declare)) (λ k p. Reads-statement_of room d sum k)
     (λ k p. some_statement k)
-    IsStatement (statement_spelled d) statement_end
+    IsStatement (statement_tokens d) statement_end
     which_statement
     (λ k s p q. is_statement k s q)
-    (λ k s p q. statement_is d s ∙ ap (λ (j : StatementWord). word (statement_spelling j) ∷ tail_spelled d s) (same_word k s q))
+    (λ k s p q. statement_is d s ∙ ap (λ (j : StatementWord). word (statement_spelling j) ∷ tail_tokens d s) (same_word k s q))
     (λ k s o p q h. (refl, h))
     (λ k s o p q h g. g)
 
-statement_begun : (s : Statement) → Begun is_any (statement_spelled 0 s)
-statement_begun s = record { head = word (statement_spelling (word_of s)); tail = tail_spelled 0 s; whole = statement_is 0 s; passes = refl }
+statement_begun : (s : Statement) → Begun is_any (statement_tokens 0 s)
+statement_begun s = record { head = word (statement_spelling (word_of s)); tail = tail_tokens 0 s; whole = statement_is 0 s; passes = refl }
 
 -- ---- a script
 
 pub script_end : List Statement → Option Token → Bool
-script_end ss o = ends_all (statement_spelled 0) statement_end is_any ss o
+script_end ss o = ends_all (statement_tokens 0) statement_end is_any ss o
 
-pub Reads-script : Reads IsScript script_spelled script_end script_at
+pub Reads-script : Reads IsScript script_tokens script_end script_at
 unfolding script_at script_end
 Reads-script =
     Reads-as
     (Reads-many {P = λ s. IsStatement} {r = λ s. statement_at 64} is_any no_matter (λ s. Reads-statement 64 0 refl) (λ s a p. statement_begun a) tt)
-    IsScript script_spelled script_end
+    IsScript script_tokens script_end
     (all_of IsStatement) (of_all IsStatement)
     (λ ss p. refl) (λ ss o p. refl)
 
@@ -280,11 +280,11 @@ statement_ends (statements.Register x) o dot comma = refl
 statement_ends (statements.Named x) o dot comma = refl
 
 -- a word or nothing follows
-next_is : (test : Token → Bool) → ((w : List ℕ) → test (Word w) ≡ false) → (ss : List Statement) → stops test (first_or (script_spelled ss) None) ≡ true
+next_is : (test : Token → Bool) → ((w : List ℕ) → test (Word w) ≡ false) → (ss : List Statement) → stops test (first_or (script_tokens ss) None) ≡ true
 next_is test h [] = refl
 next_is test h (s ∷ ss) =
     let first : stops test (Some (Word (statement_spelling (word_of s)))) ≡ true = rw (h (statement_spelling (word_of s))) refl in
-    ap (λ (l : List Leveled). stops test (first_or (l ++ script_spelled ss) None)) (statement_is 0 s) ∙ first
+    ap (λ (l : List Leveled). stops test (first_or (l ++ script_tokens ss) None)) (statement_is 0 s) ∙ first
 
 pub script_ends_text : (ss : List Statement) → IsScript ss → script_end ss None ≡ true
 unfolding script_end
@@ -297,19 +297,19 @@ script_ends_text (s ∷ ss) p =
 abbrev include_end : List (List ℕ) → Option Token → Bool
 include_end ts o = no_comma o
 
-Reads-include : Reads AreSome include_spelled include_end include_at
+Reads-include : Reads AreSome include_tokens include_end include_at
 unfolding include_at
 Reads-include = Reads-past (tests_word (codes "include")) Reads-texts (one_text, tt)
 
 pub settings_end : List (List (List ℕ)) → Option Token → Bool
-settings_end includes o = ends_all include_spelled include_end is_any includes o
+settings_end includes o = ends_all include_tokens include_end is_any includes o
 
-pub Reads-settings : Reads IsSettings settings_spelled settings_end settings_at
+pub Reads-settings : Reads IsSettings settings_tokens settings_end settings_at
 unfolding settings_at settings_end
 Reads-settings =
     Reads-as
-    (Reads-many {P = λ s. AreSome} {r = λ s. include_at} is_any no_matter (λ s. Reads-include) (λ s a p. record { head = word (codes "include"); tail = texts_spelled a; whole = refl; passes = refl }) tt)
-    IsSettings settings_spelled settings_end
+    (Reads-many {P = λ s. AreSome} {r = λ s. include_at} is_any no_matter (λ s. Reads-include) (λ s a p. record { head = word (codes "include"); tail = texts_tokens a; whole = refl; passes = refl }) tt)
+    IsSettings settings_tokens settings_end
     (all_of AreSome) (of_all AreSome)
     (λ is p. refl) (λ is o p. refl)
 

@@ -6,7 +6,7 @@ use Rattle.gb_script.specs.declared.token.Sign.TheVariants.{OpenParen, ClosePare
 use Rattle.gb_script.specs.declared.token.Token.{Token}
 use Rattle.gb_script.specs.declared.token.Token.TheVariants.{Mark}
 use Rattle.gb_script.specs.declared.function.Function.{Function}
-use Rattle.gb_script.specs.Grammar.{Leveled, opened, sign, list_spelled, texts_spelled, bracketed_spelled, given_spelled, function_spelled}
+use Rattle.gb_script.specs.Grammar.{Leveled, opened, sign, list_tokens, texts_tokens, bracketed_tokens, given_tokens, function_tokens}
 use Rattle.gb_script.specs.Fits.{IsFunction, AreSome}
 use Rattle.gb_script.specs.Reading.{Reader, is_sign, text_at, list_at, maybe_at, closed_at, no_matter}
 use Rattle.gb_script.specs.Readers.{bracketed_text_at, bracketed_texts_at, function_from, function_at}
@@ -55,8 +55,8 @@ module _ {A : Type 0} {P : A → Type 0} {m : A → List Leveled} {c : Option To
   from_row [] p = p
   from_row (x ∷ xs) p = (p.0, from_all xs p.1)
 
-  pub Reads-row : Reads IsRow (list_spelled m) (λ xs. row_end c) (list_at r)
-  Reads-row = Reads-as (Reads-list R some) IsRow (list_spelled m) (λ xs. row_end c) to_row from_row (λ xs p. refl) row_ends
+  pub Reads-row : Reads IsRow (list_tokens m) (λ xs. row_end c) (list_at r)
+  Reads-row = Reads-as (Reads-list R some) IsRow (list_tokens m) (λ xs. row_end c) to_row from_row (λ xs p. refl) row_ends
 
 -- ---- texts
 
@@ -78,20 +78,20 @@ a_row : (ts : List (List ℕ)) → AreSome ts → IsRow {c = any_end} Reads-text
 a_row [] p = p
 a_row (t ∷ ts) p = (tt, all_texts ts)
 
-pub Reads-texts : Reads AreSome texts_spelled (λ ts. no_comma) (list_at text_at)
+pub Reads-texts : Reads AreSome texts_tokens (λ ts. no_comma) (list_at text_at)
 Reads-texts =
-    Reads-as (Reads-row {c = any_end} Reads-text ([], tt) refl) AreSome texts_spelled (λ ts. no_comma) some_text a_row (λ ts p. refl) (λ ts o p. refl)
+    Reads-as (Reads-row {c = any_end} Reads-text ([], tt) refl) AreSome texts_tokens (λ ts. no_comma) some_text a_row (λ ts p. refl) (λ ts o p. refl)
 
 -- some texts
 abbrev pub one_text : List (List ℕ)
 one_text = [] ∷ []
 
-pub Reads-bracketed_text : (room d : ℕ) → room + d ≡ 64 → Reads IsAny (bracketed_spelled d) always (bracketed_text_at room)
+pub Reads-bracketed_text : (room d : ℕ) → room + d ≡ 64 → Reads IsAny (bracketed_tokens d) always (bracketed_text_at room)
 unfolding bracketed_text_at
 Reads-bracketed_text room d sum =
     Reads-opened (λ n. closed_at (is_sign CloseParen) text_at) OpenParen room d sum ([], tt) (λ n e. Reads-closed (tests_sign CloseParen) Reads-text (λ t p. refl))
 
-pub Reads-bracketed_texts : (room d : ℕ) → room + d ≡ 64 → Reads AreSome (λ ts. opened OpenParen d ∷ (texts_spelled ts ++ sign CloseParen ∷ [])) always (bracketed_texts_at room)
+pub Reads-bracketed_texts : (room d : ℕ) → room + d ≡ 64 → Reads AreSome (λ ts. opened OpenParen d ∷ (texts_tokens ts ++ sign CloseParen ∷ [])) always (bracketed_texts_at room)
 unfolding bracketed_texts_at
 Reads-bracketed_texts room d sum =
     Reads-opened (λ n. closed_at (is_sign CloseParen) (list_at text_at)) OpenParen room d sum (one_text, tt) (λ n e. Reads-closed (tests_sign CloseParen) Reads-texts (λ ts p. refl))
@@ -106,7 +106,7 @@ none_or_texts : (ts : List (List ℕ)) → (ts ≡ []) ⊎ AreSome ts
 none_or_texts [] = inl refl
 none_or_texts (t ∷ ts) = inr tt
 
-brackets_are : (d : ℕ) (ts : List (List ℕ)) → AreSome ts → given_spelled d ts ≡ opened OpenParen d ∷ (texts_spelled ts ++ sign CloseParen ∷ [])
+brackets_are : (d : ℕ) (ts : List (List ℕ)) → AreSome ts → given_tokens d ts ≡ opened OpenParen d ∷ (texts_tokens ts ++ sign CloseParen ∷ [])
 brackets_are d [] p = absurd p
 brackets_are d (t ∷ ts) p = refl
 
@@ -114,11 +114,11 @@ brackets_end : (ts : List (List ℕ)) (o : Option Token) → AreSome ts → give
 brackets_end [] o p = absurd p
 brackets_end (t ∷ ts) o p = refl
 
-Reads-given : (room d : ℕ) → room + d ≡ 64 → Reads IsAny (given_spelled d) given_end (λ ts. maybe_at (is_sign OpenParen) (bracketed_texts_at room) [] ts)
+Reads-given : (room d : ℕ) → room + d ≡ 64 → Reads IsAny (given_tokens d) given_end (λ ts. maybe_at (is_sign OpenParen) (bracketed_texts_at room) [] ts)
 Reads-given room d sum =
     Reads-maybe (is_sign OpenParen) (Reads-bracketed_texts room d sum) []
-    IsAny (given_spelled d) given_end
-    (λ ts p. record { head = opened OpenParen d; tail = texts_spelled ts ++ sign CloseParen ∷ []; whole = refl; passes = refl })
+    IsAny (given_tokens d) given_end
+    (λ ts p. record { head = opened OpenParen d; tail = texts_tokens ts ++ sign CloseParen ∷ []; whole = refl; passes = refl })
     (λ ts p. none_or_texts ts)
     tt (λ ts p. tt)
     refl (brackets_are d)
@@ -127,11 +127,11 @@ Reads-given room d sum =
 abbrev pub function_end : Function → Option Token → Bool
 function_end f o = given_end f.arguments o
 
-pub Reads-function : (room d : ℕ) → room + d ≡ 64 → Reads IsFunction (function_spelled d) function_end (function_at room)
+pub Reads-function : (room d : ℕ) → room + d ≡ 64 → Reads IsFunction (function_tokens d) function_end (function_at room)
 unfolding function_at
 Reads-function room d sum =
     Reads-into (Reads-pair Reads-name (Reads-given room d sum) ([], tt)) function_from
-    IsFunction (function_spelled d) function_end
+    IsFunction (function_tokens d) function_end
     (λ f q. ((f.name, f.arguments), refl, (q, tt)))
     (λ x p. p.0)
     (λ x p. refl) (λ x o p. refl)

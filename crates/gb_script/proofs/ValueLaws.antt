@@ -15,7 +15,7 @@ use Rattle.gb_script.specs.declared.function.Function.{Function}
 use Rattle.gb_script.specs.Lexing.{begins}
 use Rattle.gb_script.specs.Words.{meaning_in, source_words, step_words, is_reserved}
 use Rattle.gb_script.specs.Tree.{Tree, Chain, Root, TextOf, FlagOf, ListOf, PropertyOf, DirOf, FileOf, TheBuildDir, GradlePropertyOf, TaskOf, Link, MapBy, FlatMapBy, ZipBy, Else, Trees, NoTree, AndTree, Links, NoLink, AndLink, trees_of, links_of}
-use Rattle.gb_script.specs.Grammar.{Leveled, opened, sign, word, bracketed_spelled, function_spelled, tree_spelled, root_spelled, trees_spelled, further_spelled, links_spelled, link_spelled, values_spelled}
+use Rattle.gb_script.specs.Grammar.{Leveled, opened, sign, word, bracketed_tokens, function_tokens, tree_tokens, root_tokens, trees_tokens, further_tokens, links_tokens, link_tokens, values_tokens}
 use Rattle.gb_script.specs.Fits.{IsProperty, IsFunction, IsTree, IsRoot, AreTrees, AreLinks, IsLink}
 use Rattle.gb_script.specs.Reading.{Reader, ◌>>=◌, is_sign, open_at, property_at, text_at, meaning_at, maybe_at, past_at, list_at, pair_at, made_at, closed_at, opened_at}
 use Rattle.gb_script.specs.Readers.{bracketed_text_at, function_at, root_of_at, in_list, list_from, list_root_at, word_root_at, root_at, zip_from, link_of_at, link_at, chain_from, chain_at, inside_at, tree_at}
@@ -53,11 +53,11 @@ root_tail d (TextOf t) = []
 root_tail d (FlagOf b) = []
 root_tail d (ListOf trees) = []
 root_tail d (PropertyOf w) = []
-root_tail d (DirOf t) = bracketed_spelled d t
-root_tail d (FileOf t) = bracketed_spelled d t
+root_tail d (DirOf t) = bracketed_tokens d t
+root_tail d (FileOf t) = bracketed_tokens d t
 root_tail d TheBuildDir = []
-root_tail d (GradlePropertyOf t) = bracketed_spelled d t
-root_tail d (TaskOf t) = bracketed_spelled d t
+root_tail d (GradlePropertyOf t) = bracketed_tokens d t
+root_tail d (TaskOf t) = bracketed_tokens d t
 
 abbrev IsRootOf : SourceWord → Root → Type 0
 IsRootOf sources.True root = root ≡ FlagOf true
@@ -73,7 +73,7 @@ module _ (room d : ℕ) (sum : room + d ≡ 64) where
   of_nothing root nil =
       Reads-as (Reads-done root) (λ b. b ≡ root) (root_tail d) always (λ b p. p) (λ b p. p) (λ b p. ap (root_tail d) p ∙ nil) (λ b o p. refl)
 
-  of_text : (f : List ℕ → Root) → ((t : List ℕ) → root_tail d (f t) ≡ bracketed_spelled d t) → Reads (λ root. (t : List ℕ) × (root ≡ f t) × IsAny t) (root_tail d) always (made_at f (bracketed_text_at room))
+  of_text : (f : List ℕ → Root) → ((t : List ℕ) → root_tail d (f t) ≡ bracketed_tokens d t) → Reads (λ root. (t : List ℕ) × (root ≡ f t) × IsAny t) (root_tail d) always (made_at f (bracketed_text_at room))
   of_text f same =
       Reads-into (Reads-bracketed_text room d sum) f (λ root. (t : List ℕ) × (root ≡ f t) × IsAny t) (root_tail d) always
       (λ root q. q) (λ t p. (t, refl, tt)) (λ t p. same t) (λ t o p. refl)
@@ -101,21 +101,21 @@ module _ (room d : ℕ) (sum : room + d ≡ 64) where
   abbrev IsWorded : Root → Type 0
   IsWorded root = (k : SourceWord) × IsAny k × IsRootOf k root
 
-  worded_is : (k : SourceWord) (root : Root) → IsRootOf k root → root_spelled d root ≡ word (source_spelling k) ∷ root_tail d root
-  worded_is sources.True root q = ap (root_spelled d) q ∙ ap (λ (r : Root). word (codes "true") ∷ root_tail d r) (sym q)
-  worded_is sources.False root q = ap (root_spelled d) q ∙ ap (λ (r : Root). word (codes "false") ∷ root_tail d r) (sym q)
-  worded_is sources.Dir root q = ap (root_spelled d) q.1 ∙ ap (λ (r : Root). word (codes "dir") ∷ root_tail d r) (sym q.1)
-  worded_is sources.File root q = ap (root_spelled d) q.1 ∙ ap (λ (r : Root). word (codes "file") ∷ root_tail d r) (sym q.1)
-  worded_is sources.BuildDir root q = ap (root_spelled d) q ∙ ap (λ (r : Root). word (codes "buildDir") ∷ root_tail d r) (sym q)
-  worded_is sources.GradleProperty root q = ap (root_spelled d) q.1 ∙ ap (λ (r : Root). word (codes "gradleProperty") ∷ root_tail d r) (sym q.1)
-  worded_is sources.Task root q = ap (root_spelled d) q.1 ∙ ap (λ (r : Root). word (codes "task") ∷ root_tail d r) (sym q.1)
+  worded_is : (k : SourceWord) (root : Root) → IsRootOf k root → root_tokens d root ≡ word (source_spelling k) ∷ root_tail d root
+  worded_is sources.True root q = ap (root_tokens d) q ∙ ap (λ (r : Root). word (codes "true") ∷ root_tail d r) (sym q)
+  worded_is sources.False root q = ap (root_tokens d) q ∙ ap (λ (r : Root). word (codes "false") ∷ root_tail d r) (sym q)
+  worded_is sources.Dir root q = ap (root_tokens d) q.1 ∙ ap (λ (r : Root). word (codes "dir") ∷ root_tail d r) (sym q.1)
+  worded_is sources.File root q = ap (root_tokens d) q.1 ∙ ap (λ (r : Root). word (codes "file") ∷ root_tail d r) (sym q.1)
+  worded_is sources.BuildDir root q = ap (root_tokens d) q ∙ ap (λ (r : Root). word (codes "buildDir") ∷ root_tail d r) (sym q)
+  worded_is sources.GradleProperty root q = ap (root_tokens d) q.1 ∙ ap (λ (r : Root). word (codes "gradleProperty") ∷ root_tail d r) (sym q.1)
+  worded_is sources.Task root q = ap (root_tokens d) q.1 ∙ ap (λ (r : Root). word (codes "task") ∷ root_tail d r) (sym q.1)
 
-  Reads-worded : Reads IsWorded (root_spelled d) always (λ ts. meaning_at source_words ts >>= λ k. root_of_at room k.0 k.1)
+  Reads-worded : Reads IsWorded (root_tokens d) always (λ ts. meaning_at source_words ts >>= λ k. root_of_at room k.0 k.1)
   Reads-worded =
       Reads-bind {r2 = root_of_at room}
       (Reads-meaning source_words source_spelling (refl, (refl, (refl, (refl, (refl, (refl, (refl, tt))))))) source_means sources.True) (λ k p. Reads-root_of k)
       (λ k p. some_root k)
-      IsWorded (root_spelled d) always
+      IsWorded (root_tokens d) always
       (λ root q. q)
       (λ k root p q. (k, tt, q))
       (λ k root p q. worded_is k root q)
@@ -141,13 +141,13 @@ all_trees : (ts : List Tree) → AllByRecursion IsTree ts → AreTrees (trees_of
 all_trees [] p = tt
 all_trees (t ∷ ts) p = (p.0, all_trees ts p.1)
 
-further_is : (d : ℕ) (ts : List Tree) → further_spelled d (trees_of ts) ≡ flat_map (λ y. sign Comma ∷ tree_spelled d y) ts
+further_is : (d : ℕ) (ts : List Tree) → further_tokens d (trees_of ts) ≡ flat_map (λ y. sign Comma ∷ tree_tokens d y) ts
 further_is d [] = refl
-further_is d (t ∷ ts) = ap (λ (l : List Leveled). sign Comma ∷ (tree_spelled d t ++ l)) (further_is d ts)
+further_is d (t ∷ ts) = ap (λ (l : List Leveled). sign Comma ∷ (tree_tokens d t ++ l)) (further_is d ts)
 
-pub trees_is : (d : ℕ) (ts : List Tree) → trees_spelled d (trees_of ts) ≡ values_spelled d ts
+pub trees_is : (d : ℕ) (ts : List Tree) → trees_tokens d (trees_of ts) ≡ values_tokens d ts
 trees_is d [] = refl
-trees_is d (t ∷ ts) = ap (λ (l : List Leveled). tree_spelled d t ++ l) (further_is d ts)
+trees_is d (t ∷ ts) = ap (λ (l : List Leveled). tree_tokens d t ++ l) (further_is d ts)
 
 -- ---- links in a row
 
@@ -169,20 +169,20 @@ all_links (l ∷ ls) p = (p.0, all_links ls p.1)
 
 -- ---- a token that begins a value does not close a list
 
-tree_begun : (d : ℕ) (tree : Tree) → Begun in_list (tree_spelled d tree)
-tree_begun d (Chain root links) = root_begun root (links_spelled d 1 links)
+tree_begun : (d : ℕ) (tree : Tree) → Begun in_list (tree_tokens d tree)
+tree_begun d (Chain root links) = root_begun root (links_tokens d 1 links)
   where
-    root_begun : (root : Root) (more : List Leveled) → Begun in_list (root_spelled d root ++ more)
+    root_begun : (root : Root) (more : List Leveled) → Begun in_list (root_tokens d root ++ more)
     root_begun (TextOf t) more = record { head = (Text t, 0); tail = more; whole = refl; passes = refl }
     root_begun (FlagOf true) more = record { head = word (codes "true"); tail = more; whole = refl; passes = refl }
     root_begun (FlagOf false) more = record { head = word (codes "false"); tail = more; whole = refl; passes = refl }
-    root_begun (ListOf trees) more = record { head = opened OpenBracket d; tail = (trees_spelled (d + 1) trees ++ sign CloseBracket ∷ []) ++ more; whole = refl; passes = refl }
+    root_begun (ListOf trees) more = record { head = opened OpenBracket d; tail = (trees_tokens (d + 1) trees ++ sign CloseBracket ∷ []) ++ more; whole = refl; passes = refl }
     root_begun (PropertyOf w) more = record { head = word w; tail = more; whole = refl; passes = refl }
-    root_begun (DirOf t) more = record { head = word (codes "dir"); tail = bracketed_spelled d t ++ more; whole = refl; passes = refl }
-    root_begun (FileOf t) more = record { head = word (codes "file"); tail = bracketed_spelled d t ++ more; whole = refl; passes = refl }
+    root_begun (DirOf t) more = record { head = word (codes "dir"); tail = bracketed_tokens d t ++ more; whole = refl; passes = refl }
+    root_begun (FileOf t) more = record { head = word (codes "file"); tail = bracketed_tokens d t ++ more; whole = refl; passes = refl }
     root_begun TheBuildDir more = record { head = word (codes "buildDir"); tail = more; whole = refl; passes = refl }
-    root_begun (GradlePropertyOf t) more = record { head = word (codes "gradleProperty"); tail = bracketed_spelled d t ++ more; whole = refl; passes = refl }
-    root_begun (TaskOf t) more = record { head = word (codes "task"); tail = bracketed_spelled d t ++ more; whole = refl; passes = refl }
+    root_begun (GradlePropertyOf t) more = record { head = word (codes "gradleProperty"); tail = bracketed_tokens d t ++ more; whole = refl; passes = refl }
+    root_begun (TaskOf t) more = record { head = word (codes "task"); tail = bracketed_tokens d t ++ more; whole = refl; passes = refl }
 
 -- some value
 abbrev pub a_tree : Tree
@@ -193,9 +193,9 @@ IsGiven P [] = ⊥
 IsGiven P (x ∷ xs) = P x × AllByRecursion P xs
 
 -- one or more values, where one is read
-pub Reads-values : (d : ℕ) (inside : Reader Tree) → Reads IsTree (tree_spelled d) (λ t. no_dot) inside → Reads (IsGiven IsTree) (values_spelled d) (λ ts. row_end no_dot) (list_at inside)
+pub Reads-values : (d : ℕ) (inside : Reader Tree) → Reads IsTree (tree_tokens d) (λ t. no_dot) inside → Reads (IsGiven IsTree) (values_tokens d) (λ ts. row_end no_dot) (list_at inside)
 Reads-values d inside R =
-    Reads-as (Reads-row {c = no_dot} R (a_tree, (tt, tt)) refl) (IsGiven IsTree) (values_spelled d) (λ ts. row_end no_dot) to back (λ ts p. refl) (λ ts o p. refl)
+    Reads-as (Reads-row {c = no_dot} R (a_tree, (tt, tt)) refl) (IsGiven IsTree) (values_tokens d) (λ ts. row_end no_dot) to back (λ ts p. refl) (λ ts o p. refl)
   where
     to : (ts : List Tree) → IsRow {c = no_dot} R (a_tree, (tt, tt)) refl ts → IsGiven IsTree ts
     to [] p = p
@@ -227,11 +227,11 @@ elements_close : (ts : List Tree) → elements_end ts (Some (Mark CloseBracket))
 elements_close [] = refl
 elements_close (t ∷ ts) = refl
 
-some_begun : (d : ℕ) (ts : List Tree) → IsGiven IsTree ts → Begun in_list (values_spelled d ts)
+some_begun : (d : ℕ) (ts : List Tree) → IsGiven IsTree ts → Begun in_list (values_tokens d ts)
 some_begun d [] p = absurd p
 some_begun d (t ∷ ts) p =
     let b = tree_begun d t in
-    record { head = b.head; tail = b.tail ++ flat_map (λ y. sign Comma ∷ tree_spelled d y) ts; whole = ap (λ (l : List Leveled). l ++ flat_map (λ y. sign Comma ∷ tree_spelled d y) ts) b.whole; passes = b.passes }
+    record { head = b.head; tail = b.tail ++ flat_map (λ y. sign Comma ∷ tree_tokens d y) ts; whole = ap (λ (l : List Leveled). l ++ flat_map (λ y. sign Comma ∷ tree_tokens d y) ts) b.whole; passes = b.passes }
 
 abbrev IsListRoot : Root → Type 0
 IsListRoot root = (ts : List Tree) × (root ≡ list_from ts) × AllByRecursion IsTree ts
@@ -240,7 +240,7 @@ IsListRoot root = (ts : List Tree) × (root ≡ list_from ts) × AllByRecursion 
 abbrev list_marks : ℕ → Root → List Leveled
 list_marks d (TextOf t) = []
 list_marks d (FlagOf b) = []
-list_marks d (ListOf trees) = trees_spelled (d + 1) trees
+list_marks d (ListOf trees) = trees_tokens (d + 1) trees
 list_marks d (PropertyOf w) = []
 list_marks d (DirOf t) = []
 list_marks d (FileOf t) = []
@@ -274,11 +274,11 @@ list_closes TheBuildDir = refl
 list_closes (GradlePropertyOf t) = refl
 list_closes (TaskOf t) = refl
 
-module _ (room d : ℕ) (sum : room + d ≡ 64) (inside : Reader Tree) (R : (n : ℕ) → room ≡ suc n → Reads IsTree (tree_spelled (d + 1)) (λ t. no_dot) inside) where
-  Reads-elements : (n : ℕ) → room ≡ suc n → Reads (AllByRecursion IsTree) (values_spelled (d + 1)) elements_end (λ ts. maybe_at in_list (list_at inside) [] ts)
+module _ (room d : ℕ) (sum : room + d ≡ 64) (inside : Reader Tree) (R : (n : ℕ) → room ≡ suc n → Reads IsTree (tree_tokens (d + 1)) (λ t. no_dot) inside) where
+  Reads-elements : (n : ℕ) → room ≡ suc n → Reads (AllByRecursion IsTree) (values_tokens (d + 1)) elements_end (λ ts. maybe_at in_list (list_at inside) [] ts)
   Reads-elements n e =
       Reads-maybe in_list (Reads-values (d + 1) inside (R n e)) []
-      (AllByRecursion IsTree) (values_spelled (d + 1)) elements_end
+      (AllByRecursion IsTree) (values_tokens (d + 1)) elements_end
       (some_begun (d + 1)) (none_or_given IsTree)
       tt (given_all IsTree)
       refl (λ ts p. refl)
@@ -289,15 +289,15 @@ module _ (room d : ℕ) (sum : room + d ≡ 64) (inside : Reader Tree) (R : (n :
       Reads-into (Reads-elements n e) list_from IsListRoot (list_marks d) list_end
       (λ root q. q) (λ ts p. (ts, refl, p)) (λ ts p. trees_is (d + 1) ts) (λ ts o p. ap (λ (l : List Tree). elements_end l o) (list_again ts))
 
-  list_is : (root : Root) → IsListRoot root → root_spelled d root ≡ opened OpenBracket d ∷ (list_marks d root ++ sign CloseBracket ∷ [])
-  list_is root q = ap (root_spelled d) q.1 ∙ ap (λ (r : Root). opened OpenBracket d ∷ (list_marks d r ++ sign CloseBracket ∷ [])) (sym q.1)
+  list_is : (root : Root) → IsListRoot root → root_tokens d root ≡ opened OpenBracket d ∷ (list_marks d root ++ sign CloseBracket ∷ [])
+  list_is root q = ap (root_tokens d) q.1 ∙ ap (λ (r : Root). opened OpenBracket d ∷ (list_marks d r ++ sign CloseBracket ∷ [])) (sym q.1)
 
-  Reads-list_root : Reads IsListRoot (root_spelled d) always (list_root_at room inside)
+  Reads-list_root : Reads IsListRoot (root_tokens d) always (list_root_at room inside)
   unfolding list_root_at
   Reads-list_root =
       Reads-as
       (Reads-opened (λ n. closed_at (is_sign CloseBracket) (made_at list_from (λ ts. maybe_at in_list (list_at inside) [] ts))) OpenBracket room d sum (list_from [], ([], refl, tt)) (λ n e. Reads-closed (tests_sign CloseBracket) (Reads-listed n e) (λ root p. list_closes root)))
-      IsListRoot (root_spelled d) always (λ root p. p) (λ root p. p) list_is (λ root o p. refl)
+      IsListRoot (root_tokens d) always (λ root p. p) (λ root p. p) list_is (λ root o p. refl)
 
 -- ---- a root: a text, one that a word begins, a list or a property
 
@@ -322,48 +322,48 @@ IsPropertyRoot root = (w : List ℕ) × (root ≡ PropertyOf w) × IsProperty w
 worded_test : (k : SourceWord) → is_source (Word (source_spelling k)) ≡ true
 worded_test k = ap is_some (source_means k)
 
-begun_by : (test : Token → Bool) (d : ℕ) (f : Root) (root : Root) → root ≡ f → Begun test (root_spelled d f) → Begun test (root_spelled d root)
-begun_by test d f root e b = subst (λ (r : Root). Begun test (root_spelled d r)) (sym e) b
+begun_by : (test : Token → Bool) (d : ℕ) (f : Root) (root : Root) → root ≡ f → Begun test (root_tokens d f) → Begun test (root_tokens d root)
+begun_by test d f root e b = subst (λ (r : Root). Begun test (root_tokens d r)) (sym e) b
 
 property_end : List ℕ → Option Token → Bool
 property_end w o = true
 
-module _ (room d : ℕ) (sum : room + d ≡ 64) (inside : Reader Tree) (R : (n : ℕ) → room ≡ suc n → Reads IsTree (tree_spelled (d + 1)) (λ t. no_dot) inside) where
-  Reads-text_root : Reads IsTextRoot (root_spelled d) always (made_at TextOf text_at)
+module _ (room d : ℕ) (sum : room + d ≡ 64) (inside : Reader Tree) (R : (n : ℕ) → room ≡ suc n → Reads IsTree (tree_tokens (d + 1)) (λ t. no_dot) inside) where
+  Reads-text_root : Reads IsTextRoot (root_tokens d) always (made_at TextOf text_at)
   Reads-text_root =
-      Reads-into Reads-text TextOf IsTextRoot (root_spelled d) always (λ root q. q) (λ t p. (t, refl, tt)) (λ t p. refl) (λ t o p. refl)
+      Reads-into Reads-text TextOf IsTextRoot (root_tokens d) always (λ root q. q) (λ t p. (t, refl, tt)) (λ t p. refl) (λ t o p. refl)
 
-  Reads-property_root : Reads IsPropertyRoot (root_spelled d) always (made_at PropertyOf property_at)
+  Reads-property_root : Reads IsPropertyRoot (root_tokens d) always (made_at PropertyOf property_at)
   Reads-property_root =
-      Reads-into Reads-property PropertyOf IsPropertyRoot (root_spelled d) always (λ root q. q) (λ w p. (w, refl, p)) (λ w p. refl) (λ w o p. refl)
+      Reads-into Reads-property PropertyOf IsPropertyRoot (root_tokens d) always (λ root q. q) (λ w p. (w, refl, p)) (λ w p. refl) (λ w o p. refl)
 
-  list_first : (test : Token → Bool) → test (Mark OpenBracket) ≡ true → (root : Root) → IsListRoot root → Begun test (root_spelled d root)
-  list_first test h root q = begun_by test d (list_from q.0) root q.1 (record { head = opened OpenBracket d; tail = trees_spelled (d + 1) (trees_of q.0) ++ sign CloseBracket ∷ []; whole = refl; passes = h })
+  list_first : (test : Token → Bool) → test (Mark OpenBracket) ≡ true → (root : Root) → IsListRoot root → Begun test (root_tokens d root)
+  list_first test h root q = begun_by test d (list_from q.0) root q.1 (record { head = opened OpenBracket d; tail = trees_tokens (d + 1) (trees_of q.0) ++ sign CloseBracket ∷ []; whole = refl; passes = h })
 
-  property_first : (test : Token → Bool) → ((w : List ℕ) → is_reserved w ≡ false → test (Word w) ≡ true) → (root : Root) → IsPropertyRoot root → Begun test (root_spelled d root)
+  property_first : (test : Token → Bool) → ((w : List ℕ) → is_reserved w ≡ false → test (Word w) ≡ true) → (root : Root) → IsPropertyRoot root → Begun test (root_tokens d root)
   property_first test h root q = begun_by test d (PropertyOf q.0) root q.1 (record { head = word q.0; tail = []; whole = refl; passes = h q.0 q.2.1 })
 
-  worded_first : (test : Token → Bool) → ((k : SourceWord) → test (Word (source_spelling k)) ≡ true) → (root : Root) → IsWorded room d sum root → Begun test (root_spelled d root)
+  worded_first : (test : Token → Bool) → ((k : SourceWord) → test (Word (source_spelling k)) ≡ true) → (root : Root) → IsWorded room d sum root → Begun test (root_tokens d root)
   worded_first test h root q = record { head = word (source_spelling q.0); tail = root_tail d root; whole = worded_is room d sum q.0 root q.2; passes = h q.0 }
 
   -- a list or a property
   IsThird : Root → Type 0
   IsThird root = IsListRoot root ⊎ IsPropertyRoot root
 
-  Reads-third : Reads (λ root. IsListRoot root ⊎ IsPropertyRoot root) (root_spelled d) always (λ ts. cond (begins (is_sign OpenBracket) ts) (list_root_at room inside ts) (made_at PropertyOf property_at ts))
+  Reads-third : Reads (λ root. IsListRoot root ⊎ IsPropertyRoot root) (root_tokens d) always (λ ts. cond (begins (is_sign OpenBracket) ts) (list_root_at room inside ts) (made_at PropertyOf property_at ts))
   Reads-third =
       Reads-either (is_sign OpenBracket) (Reads-list_root room d sum inside R) Reads-property_root
       (list_first (is_sign OpenBracket) refl) (property_first (λ t. not (is_sign OpenBracket t)) (λ w h. refl))
 
-  third_first : (test : Token → Bool) → test (Mark OpenBracket) ≡ true → ((w : List ℕ) → is_reserved w ≡ false → test (Word w) ≡ true) → (root : Root) → IsListRoot root ⊎ IsPropertyRoot root → Begun test (root_spelled d root)
+  third_first : (test : Token → Bool) → test (Mark OpenBracket) ≡ true → ((w : List ℕ) → is_reserved w ≡ false → test (Word w) ≡ true) → (root : Root) → IsListRoot root ⊎ IsPropertyRoot root → Begun test (root_tokens d root)
   third_first test h g root q = elim q [ inl p ↦ list_first test h root p | inr p ↦ property_first test g root p ]
 
-  Reads-second : Reads (λ root. IsWorded room d sum root ⊎ (IsListRoot root ⊎ IsPropertyRoot root)) (root_spelled d) always (λ ts. cond (begins is_source ts) (meaning_at source_words ts >>= λ k. root_of_at room k.0 k.1) (cond (begins (is_sign OpenBracket) ts) (list_root_at room inside ts) (made_at PropertyOf property_at ts)))
+  Reads-second : Reads (λ root. IsWorded room d sum root ⊎ (IsListRoot root ⊎ IsPropertyRoot root)) (root_tokens d) always (λ ts. cond (begins is_source ts) (meaning_at source_words ts >>= λ k. root_of_at room k.0 k.1) (cond (begins (is_sign OpenBracket) ts) (list_root_at room inside ts) (made_at PropertyOf property_at ts)))
   Reads-second =
       Reads-either is_source (Reads-worded room d sum) Reads-third
       (worded_first is_source worded_test) (third_first (λ t. not (is_source t)) refl (λ w h. rw h refl))
 
-  second_first : (root : Root) → IsWorded room d sum root ⊎ (IsListRoot root ⊎ IsPropertyRoot root) → Begun (λ t. not (is_text t)) (root_spelled d root)
+  second_first : (root : Root) → IsWorded room d sum root ⊎ (IsListRoot root ⊎ IsPropertyRoot root) → Begun (λ t. not (is_text t)) (root_tokens d root)
   second_first root q = elim q [ inl p ↦ worded_first (λ t. not (is_text t)) (λ k. refl) root p | inr p ↦ third_first (λ t. not (is_text t)) refl (λ w h. refl) root p ]
 
   abbrev first_is : Reader Root
@@ -430,11 +430,11 @@ module _ (room d : ℕ) (sum : room + d ≡ 64) (inside : Reader Tree) (R : (n :
             ]
       ]
 
-  Reads-root : Reads IsRoot (root_spelled d) always (root_at room inside)
+  Reads-root : Reads IsRoot (root_tokens d) always (root_at room inside)
   Reads-root =
       Reads-as
       (Reads-same (Reads-either is_text Reads-text_root Reads-second (λ root q. begun_by is_text d (TextOf q.0) root q.1 (record { head = (Text q.0, 0); tail = []; whole = refl; passes = refl })) second_first) (root_at room inside) root_same)
-      IsRoot (root_spelled d) always is_root which_root (λ root p. refl) (λ root o p. refl)
+      IsRoot (root_tokens d) always is_root which_root (λ root p. refl) (λ root o p. refl)
 
 -- ---- a step
 
@@ -452,10 +452,10 @@ step_means steps.OrElse = refl
 
 -- the part within the brackets
 abbrev inner_marks : ℕ → Link → List Leveled
-inner_marks d (MapBy f) = function_spelled (d + 1) f
-inner_marks d (FlatMapBy f) = function_spelled (d + 1) f
-inner_marks d (ZipBy tree f) = tree_spelled (d + 1) tree ++ sign Comma ∷ function_spelled (d + 1) f
-inner_marks d (Else tree) = tree_spelled (d + 1) tree
+inner_marks d (MapBy f) = function_tokens (d + 1) f
+inner_marks d (FlatMapBy f) = function_tokens (d + 1) f
+inner_marks d (ZipBy tree f) = tree_tokens (d + 1) tree ++ sign Comma ∷ function_tokens (d + 1) f
+inner_marks d (Else tree) = tree_tokens (d + 1) tree
 
 abbrev inner_end : Link → Option Token → Bool
 inner_end (MapBy f) o = function_end f o
@@ -478,7 +478,7 @@ word_of_link (FlatMapBy f) = codes "flatMap"
 word_of_link (ZipBy tree f) = codes "zip"
 word_of_link (Else tree) = codes "orElse"
 
-link_is : (d : ℕ) (link : Link) → link_spelled d link ≡ word (word_of_link link) ∷ in_brackets d link
+link_is : (d : ℕ) (link : Link) → link_tokens d link ≡ word (word_of_link link) ∷ in_brackets d link
 link_is d (MapBy f) = refl
 link_is d (FlatMapBy f) = refl
 link_is d (ZipBy tree f) = refl
@@ -514,7 +514,7 @@ is_link steps.FlatMap link q = subst IsLink (sym q.1) q.2
 is_link steps.Zip link q = subst IsLink (sym q.1) q.2
 is_link steps.OrElse link q = subst IsLink (sym q.1) q.2
 
-module _ (room d : ℕ) (sum : room + d ≡ 64) (inside : Reader Tree) (R : (n : ℕ) → room ≡ suc n → Reads IsTree (tree_spelled (d + 1)) (λ t. no_dot) inside) where
+module _ (room d : ℕ) (sum : room + d ≡ 64) (inside : Reader Tree) (R : (n : ℕ) → room ≡ suc n → Reads IsTree (tree_tokens (d + 1)) (λ t. no_dot) inside) where
   within : (n : ℕ) → room ≡ suc n → n + (d + 1) ≡ 64
   within n e = omega (arith, e, sum)
 
@@ -537,12 +537,12 @@ module _ (room d : ℕ) (sum : room + d ≡ 64) (inside : Reader Tree) (R : (n :
   Reads-link_of steps.OrElse =
       bracketed steps.OrElse (λ n. made_at Else inside) (λ n e. Reads-into (R n e) Else (IsLinkOf steps.OrElse) (inner_marks d) inner_end (λ link q. q) (λ t p. (t, refl, p)) (λ t p. refl) (λ t o p. refl))
 
-  Reads-worded_link : Reads IsLink (link_spelled d) always (λ ts. meaning_at step_words ts >>= λ k. link_of_at room inside k.0 k.1)
+  Reads-worded_link : Reads IsLink (link_tokens d) always (λ ts. meaning_at step_words ts >>= λ k. link_of_at room inside k.0 k.1)
   Reads-worded_link =
       Reads-bind {r2 = link_of_at room inside}
       (Reads-meaning step_words step_spelling (refl, (refl, (refl, (refl, tt)))) step_means steps.Map) (λ k p. Reads-link_of k)
       (λ k p. some_link k)
-      IsLink (link_spelled d) always
+      IsLink (link_tokens d) always
       which_link
       (λ k link p q. is_link k link q)
       (λ k link p q. link_is d link ∙ ap (λ (w : List ℕ). word w ∷ in_brackets d link) (word_same_link k link q))
@@ -550,29 +550,29 @@ module _ (room d : ℕ) (sum : room + d ≡ 64) (inside : Reader Tree) (R : (n :
       (λ k link o p q h g. refl)
 
   -- the n-th step of a chain
-  Reads-link : (n : ℕ) → n ≤ 64 → Reads IsLink (λ link. (Mark Dot, n) ∷ link_spelled d link) always (link_at room inside)
+  Reads-link : (n : ℕ) → n ≤ 64 → Reads IsLink (λ link. (Mark Dot, n) ∷ link_tokens d link) always (link_at room inside)
   unfolding link_at
   Reads-link n few = Reads-skip-at (tests_sign Dot) Reads-worded_link (Else a_tree, (tt, tt)) n (le-ltb 64 n few)
 
-  links_is : (n : ℕ) (ls : List Link) → links_spelled d n (links_of ls) ≡ chain_marks (link_spelled d) Reads-link (Else a_tree, (tt, tt)) n ls
+  links_is : (n : ℕ) (ls : List Link) → links_tokens d n (links_of ls) ≡ chain_marks (link_tokens d) Reads-link (Else a_tree, (tt, tt)) n ls
   links_is n [] = refl
-  links_is n (l ∷ ls) = ap (λ (k : List Leveled). (Mark Dot, n) ∷ (link_spelled d l ++ k)) (links_is (n + 1) ls)
+  links_is n (l ∷ ls) = ap (λ (k : List Leveled). (Mark Dot, n) ∷ (link_tokens d l ++ k)) (links_is (n + 1) ls)
 
   tree_split : (tree : Tree) → IsTree tree → (x : Root × List Link) × (tree ≡ chain_from x) × (IsRoot x.0 × AllByRecursion IsLink x.1)
   tree_split (Chain root links) p = ((root, links_list links), ap (Chain root) (links_again links), (p.0, links_all links p.1))
 
-  Reads-chained : Reads IsTree (tree_spelled d) (λ t. no_dot) (chain_at room inside)
+  Reads-chained : Reads IsTree (tree_tokens d) (λ t. no_dot) (chain_at room inside)
   unfolding chain_at
   Reads-chained =
-      Reads-into (Reads-pair (Reads-root room d sum inside R) (Reads-chain (link_spelled d) Reads-link (Else a_tree, (tt, tt)) 64 1 refl) ([], tt)) chain_from
-      IsTree (tree_spelled d) (λ t. no_dot)
+      Reads-into (Reads-pair (Reads-root room d sum inside R) (Reads-chain (link_tokens d) Reads-link (Else a_tree, (tt, tt)) 64 1 refl) ([], tt)) chain_from
+      IsTree (tree_tokens d) (λ t. no_dot)
       tree_split
       (λ x p. (p.0, all_links x.1 p.1))
-      (λ x p. ap (λ (l : List Leveled). root_spelled d x.0 ++ l) (links_is 1 x.1))
+      (λ x p. ap (λ (l : List Leveled). root_tokens d x.0 ++ l) (links_is 1 x.1))
       (λ x o p. refl)
 
 -- a value inside d brackets, where room more may open
-pub Reads-tree : (room d : ℕ) → room + d ≡ 64 → Reads IsTree (tree_spelled d) (λ t. no_dot) (tree_at room)
+pub Reads-tree : (room d : ℕ) → room + d ≡ 64 → Reads IsTree (tree_tokens d) (λ t. no_dot) (tree_at room)
 unfolding inside_at
 Reads-tree zero d sum = Reads-chained zero d sum (inside_at zero) (λ n e. absurd (no n e))
   where

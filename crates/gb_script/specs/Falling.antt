@@ -2,12 +2,13 @@
 use Rattle.std.specs.Prelude.{◌+◌, ◌≤◌, List, [], ◌∷◌, map}
 use Rattle.std.proofs.Common.{arith}
 use denote.Param.Weighed.{most}
-use Rattle.gb_script.specs.declared.expression.Expression.TheInside.{Inside}
-use Rattle.gb_script.specs.declared.expression.Expression.TheDeep.{deep-Expression, deep-Source, deep-Step}
-use Rattle.gb_script.specs.declared.expression.Source.{Source}
-use Rattle.gb_script.specs.declared.expression.Source.TheVariants as sources
-use Rattle.gb_script.specs.declared.expression.Step.{Step}
-use Rattle.gb_script.specs.declared.expression.Step.TheVariants as steps
+use Rattle.gb_script.specs.declared.script_expression.Expression.TheInside.{Inside}
+use Rattle.gb_script.specs.declared.script_expression.Expression.TheDeep.{deep-Expression, deep-Source}
+use Rattle.gb_script.specs.declared.script_expression.Expression.TheDeep.{deep-Step}
+use Rattle.gb_script.specs.declared.script_expression.Source.{Source}
+use Rattle.gb_script.specs.declared.script_expression.Source.TheVariants as sources
+use Rattle.gb_script.specs.declared.script_expression.Step.{Step}
+use Rattle.gb_script.specs.declared.script_expression.Step.TheVariants as steps
 use Rattle.gb_script.specs.Tree.{Tree, trees_of, links_of, tree_size, root_size}
 use Rattle.gb_script.specs.Tree.{trees_size, link_size, links_size}
 use Rattle.gb_script.specs.View.{tree_of, root_of, link_of}

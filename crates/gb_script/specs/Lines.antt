@@ -5,9 +5,9 @@ use Rattle.gb_script.specs.declared.script.Clause.{Clause}
 use Rattle.gb_script.specs.declared.script.Statement.{Statement}
 use Rattle.gb_script.specs.declared.script.Statement.TheVariants as statements
 use Rattle.gb_script.specs.Lexing.{Placed}
-use Rattle.gb_script.specs.Grammar.{Leveled, word, sign, action_spelled, clause_spelled, statement_spelled}
+use Rattle.gb_script.specs.Grammar.{Leveled, word, sign, action_tokens, clause_tokens, statement_tokens}
 use Rattle.gb_script.specs.Notation.{line_of}
-use Rattle.gb_script.specs.Script.{Spells}
+use Rattle.gb_script.specs.Script.{ParsesAs}
 
 -- Several values are derived one after another, and these are the tokens from the first one on:
 -- f of each, with the tokens from its own first token on.
@@ -36,23 +36,23 @@ before_clauses (statements.Convention x) = []
 before_clauses (statements.Unset x) = []
 before_clauses (statements.DisallowChanges x) = []
 before_clauses (statements.Register r) =
-    word (codes "register") ∷ word r.name ∷ action_spelled 0 r.action ++ sign OpenBrace ∷ []
+    word (codes "register") ∷ word r.name ∷ action_tokens 0 r.action ++ sign OpenBrace ∷ []
 before_clauses (statements.Named c) = word (codes "named") ∷ word c.name ∷ sign OpenBrace ∷ []
 
 -- the line of a statement and the lines of its clauses: each is the line of the first token
 abbrev pub statement_lines : List ℕ → Statement → List Placed → ℕ × List ℕ
 statement_lines bytes s tokens = (
   line_of bytes tokens,
-  each_from (λ c. line_of bytes) (clause_spelled 0) (clauses_in s)
+  each_from (λ c. line_of bytes) (clause_tokens 0) (clauses_in s)
       (drop (length (before_clauses s)) tokens),
 )
 
 -- those of all statements
 abbrev pub script_lines : List ℕ → List Statement → List Placed → List (ℕ × List ℕ)
-script_lines bytes script tokens = each_from (statement_lines bytes) (statement_spelled 0) script tokens
+script_lines bytes script tokens = each_from (statement_lines bytes) (statement_tokens 0) script tokens
 
 -- The bytes parse as a script, and these are the lines of its statements and clauses.
 pub record AreLinesOf (bytes : List ℕ) (lines : List (ℕ × List ℕ)) : Type 0 where
   pub script : List Statement
-  pub spells : Spells bytes script
+  pub spells : ParsesAs bytes script
   pub lines_are : lines ≡ script_lines bytes script spells.tokens

@@ -25,10 +25,10 @@ line_of bytes (p ∷ ps) = p.1
 
 module _ {A : Type 0} (Is : A → Type 0) (spelled : A → List Leveled) where
   -- The bytes parse as the value: their tokens are its spelling, and pass no limit.
-  pub record IsSpelled (bytes : List ℕ) (said : A) : Type 0 where
+  pub record ParsesTo (bytes : List ℕ) (said : A) : Type 0 where
     pub tokens : List Placed
     pub source : IsSource bytes tokens
-    pub spelled_so : tokens_in tokens ≡ tokens_of (spelled said)
+    pub tokens_are : tokens_in tokens ≡ tokens_of (spelled said)
     pub within : AllWithin (spelled said)
     pub is : Is said
 
@@ -51,7 +51,7 @@ module _ {A : Type 0} (Is : A → Type 0) (spelled : A → List Leveled) where
 
   -- The meaning of the bytes in the notation, or the one fault that they have.
   abbrev pub IsSaid : List ℕ → Result A ScriptFault → Type 0
-  IsSaid bytes (Ok said) = IsSpelled bytes said
+  IsSaid bytes (Ok said) = ParsesTo bytes said
   IsSaid bytes (Err OutOfMemory) = ⊥
   IsSaid bytes (Err (Syntax line)) = IsSyntaxFault bytes line
   IsSaid bytes (Err TooLong) = 1048576 < length bytes
@@ -59,5 +59,5 @@ module _ {A : Type 0} (Is : A → Type 0) (spelled : A → List Leveled) where
   IsSaid bytes (Err NotUtf8) = (length bytes ≤ 1048576) × ¬ (IsUtf8 bytes)
 
   -- bytes never have two meanings
-  abbrev pub SaysOneThing : Type 0
-  SaysOneThing = (bytes : List ℕ) (a b : Result A ScriptFault) → IsSaid bytes a → IsSaid bytes b → a ≡ b
+  abbrev pub HasOneMeaning : Type 0
+  HasOneMeaning = (bytes : List ℕ) (a b : Result A ScriptFault) → IsSaid bytes a → IsSaid bytes b → a ≡ b

@@ -1,9 +1,9 @@
 -- What the parts of an expression denote.
 use Rattle.std.specs.Prelude.{List, map}
-use Rattle.gb_script.specs.declared.expression.Source.{Source}
-use Rattle.gb_script.specs.declared.expression.Source.TheVariants as sources
-use Rattle.gb_script.specs.declared.expression.Step.{Step}
-use Rattle.gb_script.specs.declared.expression.Step.TheVariants.{Map, FlatMap, Zip, OrElse}
+use Rattle.gb_script.specs.declared.script_expression.Source.{Source}
+use Rattle.gb_script.specs.declared.script_expression.Source.TheVariants as sources
+use Rattle.gb_script.specs.declared.script_expression.Step.{Step}
+use Rattle.gb_script.specs.declared.script_expression.Step.TheVariants.{Map, FlatMap, Zip, OrElse}
 use Rattle.gb_script.specs.Tree.{Tree, Chain, Root, TextOf, FlagOf, ListOf, PropertyOf, DirOf, FileOf}
 use Rattle.gb_script.specs.Tree.{TheBuildDir, GradlePropertyOf, TaskOf, Link, MapBy, FlatMapBy, ZipBy}
 use Rattle.gb_script.specs.Tree.{Else, trees_of, links_of}

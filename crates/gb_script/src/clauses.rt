@@ -9,16 +9,16 @@ ghost use Rattle.gb_script.specs.Readers.{function_at, condition_at, patterns_at
 ghost use Rattle.gb_script.specs.Readers.{input_files_at, order_of_at, run_of_at};
 ghost use Rattle.gb_script.specs.Readers.{clause_of_at, clause_at, block_at};
 
-use crate::expression::{Expression, Expressions};
 use crate::function::Function;
 use crate::keywords::{ClauseWord, OrderWord, RunWord, clause_word};
 use crate::part_readers::{
     begins, closed, function, name, open, patterns, property, said, skip, skip_word, stray, texts,
 };
 use crate::script::{Assignment, Block, Call, Clause, Condition, InputFiles};
+use crate::script_expression::{Expression, Expressions};
 use crate::token::{Sign, Token};
 use crate::token_fault::Stop;
-use crate::values::{expression, expressions};
+use crate::value_reader::{expression, expressions};
 use gb_core::text::Texts;
 use std::alloc::Global;
 

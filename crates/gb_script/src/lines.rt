@@ -5,7 +5,7 @@ ghost use Rattle.std.specs.Prelude.{◌≡◌, ◌<◌, ◌≤◌, ◌⊎◌, le
 ghost use Rattle.gb_script.specs.Reading.{Gives, many_at, no_matter, all_at};
 ghost use Rattle.gb_script.specs.Readers.{in_block};
 ghost use Rattle.gb_script.specs.Reporting.{line_left};
-ghost use Rattle.gb_script.specs.Script.{Says};
+ghost use Rattle.gb_script.specs.Script.{HasMeaning};
 ghost use Rattle.gb_script.specs.Lines.{AreLinesOf};
 ghost use Rattle.gb_script.specs.LineReaders.{clause_line_at, block_lines_at, registration_lines_at};
 ghost use Rattle.gb_script.specs.LineReaders.{configuration_lines_at, no_lines_at, clause_lines_at};
@@ -265,7 +265,8 @@ pub fn read_script_lines(alloc: Global, bytes: &[u8]) -> Result<Vec<StatementLin
     // clause.
     ensures found { IfOk result (λ lines. AreLinesOf bytes.now lines.items) }
     // A fault is the fault that the bytes have as a script, unless memory runs out.
-    ensures fault { IfErr result (λ fault. (fault ≡ ScriptFault.OutOfMemory) ⊎ Says bytes.now (Err fault)) }
+    ensures fault { IfErr result (λ fault. (fault ≡ ScriptFault.OutOfMemory)
+        ⊎ HasMeaning bytes.now (Err fault)) }
 {
     let text = text_of(bytes)?;
     let lexed = lex(alloc, text)?;

@@ -1,6 +1,6 @@
 //! The parsed form of scripts and settings.
-use crate::expression::{Expression, Expressions};
 use crate::function::Function;
+use crate::script_expression::{Expression, Expressions};
 use gb_core::name::Name;
 use gb_core::text::Texts;
 use std::marker::Model;
@@ -74,7 +74,8 @@ pub enum Clause {
     DoLast(Call),
     /// The task is skipped if the value fails the test.
     OnlyIf(Condition),
-    /// The task runs in full if the value fails the test.
+    /// The task is not up to date if the value fails the test, and its execution is not
+    /// incremental.
     UpToDateWhen(Condition),
     /// The task is skipped if the value is not true.
     Enabled(Expression),
@@ -144,13 +145,13 @@ pub enum Statement {
     DefaultTasks(Texts),
     /// A new property.
     Property(Name),
-    /// `set N = V`: the value of a property from here on.
+    /// `set N = V`: the value of a property from this statement on.
     Set(Assignment),
     /// `convention N = V`: its value if it is not set.
     Convention(Assignment),
     /// `unset N`: the property falls back to its convention.
     Unset(Name),
-    /// `disallowChanges N`: the property is final from here on (35).
+    /// `disallowChanges N`: the property is final from this statement on (35).
     DisallowChanges(Name),
     /// `register N { .. }`: a new task of the project.
     Register(Registration),
@@ -195,7 +196,8 @@ impl Script {
     }
 }
 
-/// The project paths that settings include: for each `include` its texts, at least one, in their order.
+/// The project paths that settings include: for each `include` its texts, at least one, in their
+/// order.
 #[derive(Debug, Drop)]
 pub struct Settings {
     includes: Vec<Texts>,

@@ -1,7 +1,7 @@
 //! The fault at which reading tokens stops.
 use std::alloc::{AllocError, AllocFailed};
 
-/// The fault of a sequence of tokens, and how many tokens are left from there on.
+/// The fault of a sequence of tokens, with the number of tokens that remain from there on.
 #[derive(Clone, Copy)]
 pub enum Fault {
     /// A token that no script has there.

@@ -3,16 +3,22 @@
 //!
 //! The kinds are those of `gb_pages` and `gb_feed`. `data` has a site that the gate builds. Proved:
 //! that the program never panics, and that it ends if its system calls end.
+//!
+//! It joins the three tables of kinds by `beside` of `gb_with`, and `here::build_here` of `gb_here`
+//! does the rest.
+//!
+//! Set aside: the kinds in the program's own files, since kinds in a library are checked without
+//! the program. Out of scope: serving the pages, and watching the files.
 #![tactic(auto)]
 
 use gb_action::actions::Actions;
 use gb_action::table::{ActionTable, TableFault};
 use gb_answer::{builtin_actions, builtin_functions};
-use gb_command::run::UNPRINTED;
-use gb_feed::actions::{Feeds, feed_actions};
+use gb_cli::program::UNPRINTED;
+use gb_feed::feed_kinds::{Feeds, feed_actions};
 use gb_here::here::build_here;
 use gb_kinds::builtin::{Builtin, StoredAction};
-use gb_pages::actions::{Pages, page_actions};
+use gb_pages::page_kinds::{Pages, page_actions};
 use gb_with::beside::beside;
 use gb_with::both::Both;
 use std::alloc::{AllocError, Global};

@@ -6,7 +6,7 @@ use Rattle.gb_action.specs.Changes.{Changes, changes_between}
 use Rattle.gb_action.specs.Files.{Tree, Trees}
 use Rattle.gb_folder.specs.Files.{Files}
 use Rattle.gb_history.specs.Record.{Prints}
-use Rattle.gb_meaning.specs.Tree.{tree_of}
+use Rattle.gb_semantics.specs.Tree.{tree_of}
 use Rattle.gb_plan.specs.declared.task.FileProperty.{FileProperty}
 use Rattle.gb_tree.specs.Prints.{digests_of}
 use Rattle.gb_label.specs.Reading.{digests_in}

@@ -7,7 +7,7 @@ use Rattle.gb_history.specs.declared.decide.Decision.TheVariants as decisions
 use Rattle.gb_label.specs.Preparing.{MayDecideAs, MayPrepare}
 use Rattle.gb_label.specs.declared.prepare.Prepared.{Prepared}
 use Rattle.gb_label.specs.declared.prepare.Prepared.TheVariants as prepared
-use Rattle.gb_meaning.specs.Outline.{MayAnswer, PrintsNothing}
+use Rattle.gb_semantics.specs.Outline.{MayAnswer, PrintsNothing}
 use Rattle.gb_plan.specs.Task.{Path}
 use Rattle.gb_plan.specs.declared.task.TaskDeclaration.{TaskDeclaration as Task}
 use Rattle.gb_plan.proofs.Tests.{not_true}

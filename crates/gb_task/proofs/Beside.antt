@@ -7,13 +7,13 @@ use Rattle.gb_action.specs.Meanings.{Values}
 use Rattle.gb_action.specs.declared.reply.Written.{Written}
 use Rattle.gb_folder.specs.Files.{Place, Bytes, Files, file_at, files_where, is_blocked, is_own}
 use Rattle.gb_folder.proofs.Changes.{file_at-files_where}
-use Rattle.gb_meaning.specs.Events.{IsTornInRun, Setting, ExistsInRun}
-use Rattle.gb_meaning.specs.Kinds.{Kinds, kind_of}
-use Rattle.gb_meaning.specs.Label.{run_of}
-use Rattle.gb_meaning.specs.Made.{blocked_in, placed, put_over, rest_of, step_faults}
-use Rattle.gb_meaning.specs.Run.{Ended, ends, or_end, step_by, unless_hindered}
-use Rattle.gb_meaning.specs.Tree.{trees_of}
-use Rattle.gb_meaning.specs.Execution.{IsWritten}
+use Rattle.gb_semantics.specs.Events.{IsTornInRun, Setting, ExistsInRun}
+use Rattle.gb_semantics.specs.Kinds.{Kinds, kind_of}
+use Rattle.gb_semantics.specs.Label.{run_of}
+use Rattle.gb_semantics.specs.Made.{blocked_in, placed, put_over, rest_of, step_faults}
+use Rattle.gb_semantics.specs.Run.{Ended, ends, or_end, step_by, unless_hindered}
+use Rattle.gb_semantics.specs.Tree.{trees_of}
+use Rattle.gb_semantics.specs.Execution.{IsWritten}
 use Rattle.gb_plan.proofs.Tests.{no_longer}
 use Rattle.gb_plan.specs.Task.{Text, is_output_of}
 use Rattle.gb_plan.specs.declared.task.Action.{Action}

@@ -6,19 +6,19 @@ use Rattle.std.specs.List.{AllByRecursion, list_any}
 use Rattle.std.proofs.Common.{refl, sym, subst, ◌∙◌, inl}
 use Rattle.gb_action.specs.Changes.{Changes}
 use Rattle.gb_action.specs.Files.{Trees}
-use Rattle.gb_action.specs.declared.output.OutputFiles.{OutputFiles}
+use Rattle.gb_action.specs.declared.output_files.OutputFiles.{OutputFiles}
 use Rattle.gb_core.specs.Lists.{byte_order}
 use Rattle.gb_core.specs.Path.{is_task_path}
 use Rattle.gb_folder.specs.Files.{Contents, Place, SameTearing, Tearing, is_empty, is_own}
 use Rattle.gb_history.specs.Places.{record_place}
 use Rattle.gb_history.specs.Record.{Prints}
 use Rattle.gb_label.specs.Deciding.{HasNamesInOrder}
-use Rattle.gb_meaning.specs.Kinds.{Kinds}
-use Rattle.gb_meaning.specs.Label.{Moment}
-use Rattle.gb_meaning.specs.Made.{rest_of}
-use Rattle.gb_meaning.specs.Memory.{Entry, Memory, World, forget}
-use Rattle.gb_meaning.specs.Tree.{trees_of}
-use Rattle.gb_meaning.specs.TrueRecord.{outside}
+use Rattle.gb_semantics.specs.Kinds.{Kinds}
+use Rattle.gb_semantics.specs.Label.{Moment}
+use Rattle.gb_semantics.specs.Made.{rest_of}
+use Rattle.gb_semantics.specs.Memory.{Entry, Memory, World, forget}
+use Rattle.gb_semantics.specs.Tree.{trees_of}
+use Rattle.gb_semantics.specs.TrueRecord.{outside}
 use Rattle.gb_plan.specs.Graph.{Plan, reads_output_of, some_overlap}
 use Rattle.gb_plan.specs.Task.{Text, is_output_of, output_places}
 use Rattle.gb_plan.specs.declared.task.Output.{Output}

@@ -6,11 +6,11 @@ use Rattle.gb_folder.specs.Files.{is_empty}
 use Rattle.gb_history.specs.declared.decide.Decision.TheVariants as decisions
 use Rattle.gb_label.specs.declared.prepare.Prepared.TheVariants as prepared
 use Rattle.gb_label.proofs.Cases.{cased}
-use Rattle.gb_meaning.specs.Kinds.{Kinds}
-use Rattle.gb_meaning.specs.Label.{AreChanges, Early, HasNoActions, IsCurrent, IsIncremental, IsOutcomeAt, Moment, Skips, changes_from, early_case, has_one_writer, some_outcome}
-use Rattle.gb_meaning.specs.Memory.{World}
-use Rattle.gb_meaning.specs.Tree.{has_no_source, input_faults, listing_faults, trees_of}
-use Rattle.gb_meaning.specs.Execution.{Leaves, Prints, lines_of}
+use Rattle.gb_semantics.specs.Kinds.{Kinds}
+use Rattle.gb_semantics.specs.Label.{AreChanges, Early, HasNoActions, IsCurrent, IsIncremental, IsOutcomeAt, Moment, Skips, changes_from, early_case, has_one_writer, some_outcome}
+use Rattle.gb_semantics.specs.Memory.{World}
+use Rattle.gb_semantics.specs.Tree.{has_no_source, input_faults, listing_faults, trees_of}
+use Rattle.gb_semantics.specs.Execution.{Leaves, Prints, lines_of}
 use Rattle.gb_plan.specs.Graph.{Plan, needs_in}
 use Rattle.gb_plan.specs.declared.task.Action.{Action}
 use Rattle.gb_plan.specs.declared.task.TaskDeclaration.{TaskDeclaration as Task}

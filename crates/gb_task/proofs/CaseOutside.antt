@@ -10,8 +10,8 @@ use Rattle.gb_label.specs.declared.deciding.Basis.{Basis}
 use Rattle.gb_label.specs.declared.deciding.Basis.TheVariants as bases
 use Rattle.gb_label.specs.declared.deciding.FullReason.TheVariants as causes
 use Rattle.gb_label.specs.declared.prepare.Prepared.TheVariants as prepared
-use Rattle.gb_meaning.specs.Tree.{reported_of_tree, trees_of}
-use Rattle.gb_meaning.specs.TrueRecord.{outside}
+use Rattle.gb_semantics.specs.Tree.{reported_of_tree, trees_of}
+use Rattle.gb_semantics.specs.TrueRecord.{outside}
 use Rattle.gb_plan.proofs.Tests.{none_left, none_right}
 use Rattle.gb_plan.specs.declared.task.Output.{Output}
 use Rattle.gb_plan.specs.declared.task.TaskDeclaration.{TaskDeclaration as Task}

@@ -4,8 +4,8 @@ use Rattle.std.specs.List.{list_any}
 use Rattle.std.proofs.Common.{ap, inl, inr}
 use Rattle.gb_folder.specs.Files.{Contents, IsFolder, SameTearing, Tearing, is_own}
 use Rattle.gb_history.specs.Places.{record_place}
-use Rattle.gb_meaning.specs.Made.{rest_of}
-use Rattle.gb_meaning.specs.Memory.{Memory, forget}
+use Rattle.gb_semantics.specs.Made.{rest_of}
+use Rattle.gb_semantics.specs.Memory.{Memory, forget}
 use Rattle.gb_plan.proofs.Tests.{or_right}
 use Rattle.gb_plan.specs.Task.{is_output_of}
 use Rattle.gb_plan.specs.declared.task.Output.{Output}

@@ -15,12 +15,12 @@ use Rattle.gb_label.specs.declared.deciding.Basis.{Basis}
 use Rattle.gb_label.specs.declared.deciding.Basis.TheVariants as bases
 use Rattle.gb_label.specs.declared.deciding.FullReason.TheVariants as causes
 use Rattle.gb_label.specs.declared.prepare.Prepared.TheVariants as prepared
-use Rattle.gb_meaning.specs.Kinds.{Kinds}
-use Rattle.gb_meaning.specs.Label.{changes_from, early_case}
-use Rattle.gb_meaning.specs.Memory.{Entry, World, entry_of, output_files, recalled}
-use Rattle.gb_meaning.specs.Tree.{listing_faults}
-use Rattle.gb_meaning.specs.TrueRecord.{IsMade}
-use Rattle.gb_meaning.proofs.Common.{none_some, some_same}
+use Rattle.gb_semantics.specs.Kinds.{Kinds}
+use Rattle.gb_semantics.specs.Label.{changes_from, early_case}
+use Rattle.gb_semantics.specs.Memory.{Entry, World, entry_of, output_files, recalled}
+use Rattle.gb_semantics.specs.Tree.{listing_faults}
+use Rattle.gb_semantics.specs.TrueRecord.{IsMade}
+use Rattle.gb_semantics.proofs.Common.{none_some, some_same}
 use Rattle.gb_plan.specs.declared.task.TaskDeclaration.{TaskDeclaration as Task}
 use Rattle.gb_records.specs.Digests.{IsClearTo, IsPresent}
 use Rattle.gb_records.specs.Said.{IsSaidOf}

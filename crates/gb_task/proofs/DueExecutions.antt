@@ -3,12 +3,12 @@ use Rattle.std.specs.Prelude.{ℕ, ◌≡◌, ◌⊎◌, ◌++◌, Bool, true, f
 use Rattle.std.proofs.Common.{refl, sym, ap, subst, ◌∙◌, inl, inr}
 use Rattle.gb_action.specs.Changes.{Changes}
 use Rattle.gb_folder.specs.Files.{Contents, Files, Place, is_empty}
-use Rattle.gb_meaning.specs.Events.{Setting, may_occur, rules_in}
-use Rattle.gb_meaning.specs.Kinds.{Kinds}
-use Rattle.gb_meaning.specs.Label.{AreChanges, Early, EndsWith, IsCurrent, IsOutcomeOf, IsOutcomeAt, Moment, early_case, run_of}
-use Rattle.gb_meaning.specs.Memory.{World}
-use Rattle.gb_meaning.specs.Tree.{has_no_source, input_faults, listing_faults, trees_of}
-use Rattle.gb_meaning.specs.Execution.{ByItself, ByMachine, Cause, FailedRunLeaves, FailedRunPrints, FailureLeaves, FailurePrints, HadBegun, HasEnded, IsGivenUp, IsOfMachine, KeepsRightFiles, WorldState, StartedExecution, cause_of, lines_of}
+use Rattle.gb_semantics.specs.Events.{Setting, may_occur, rules_in}
+use Rattle.gb_semantics.specs.Kinds.{Kinds}
+use Rattle.gb_semantics.specs.Label.{AreChanges, Early, EndsWith, IsCurrent, IsOutcomeOf, IsOutcomeAt, Moment, early_case, run_of}
+use Rattle.gb_semantics.specs.Memory.{World}
+use Rattle.gb_semantics.specs.Tree.{has_no_source, input_faults, listing_faults, trees_of}
+use Rattle.gb_semantics.specs.Execution.{ByItself, ByMachine, Cause, FailedRunLeaves, FailedRunPrints, FailureLeaves, FailurePrints, HadBegun, HasEnded, IsGivenUp, IsOfMachine, KeepsRightFiles, WorldState, StartedExecution, cause_of, lines_of}
 use Rattle.gb_plan.specs.Graph.{Plan}
 use Rattle.gb_plan.specs.Task.{Text, is_output_of}
 use Rattle.gb_plan.specs.declared.task.Action.{Action}
@@ -18,7 +18,7 @@ use Rattle.gb_report.specs.declared.fault.Fault.{Fault}
 use Rattle.gb_report.specs.declared.fault.Fault.TheVariants as faults
 use Rattle.gb_report.specs.declared.report.Options.{Options}
 use Rattle.gb_report.specs.declared.report.Outcome.TheVariants as outcomes
-use Rattle.gb_meaning.proofs.Common.{none_some}
+use Rattle.gb_semantics.proofs.Common.{none_some}
 use Rattle.gb_run.proofs.Placed.{none_after, none_before}
 use Rattle.gb_task.specs.Executing.{report_of}
 use Rattle.gb_label.proofs.Cases.{cased}

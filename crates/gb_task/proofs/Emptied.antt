@@ -7,20 +7,20 @@ use Rattle.gb_core.specs.Place.{is_place, is_under}
 use Rattle.gb_folder.specs.Files.{Place, Contents, Files, HasRisen, Tearing, file_at, files_where, is_empty, is_own}
 use Rattle.gb_folder.proofs.Changes.{HasRisen-before}
 use Rattle.gb_history.specs.Places.{record_place}
-use Rattle.gb_meaning.specs.Events.{Setting, is_touched_by, may_occur, own_files, rules_in}
-use Rattle.gb_meaning.specs.Kinds.{Kinds}
-use Rattle.gb_meaning.specs.Label.{Early, HasNoSource, IsOutcomeAt, Moment, early_case}
-use Rattle.gb_meaning.specs.Made.{rest_of}
-use Rattle.gb_meaning.specs.Memory.{Memory, World, forget}
-use Rattle.gb_meaning.specs.Tree.{has_no_source, input_faults, listing_faults, reported_of_tree}
-use Rattle.gb_meaning.specs.TrueRecord.{outside}
-use Rattle.gb_meaning.specs.Execution.{FailureLeaves, FailurePrints, InventsNothing, IsGivenUp, IsWritten, WorldState as Exists, StartedExecution, TouchesRecordIn}
+use Rattle.gb_semantics.specs.Events.{Setting, is_touched_by, may_occur, own_files, rules_in}
+use Rattle.gb_semantics.specs.Kinds.{Kinds}
+use Rattle.gb_semantics.specs.Label.{Early, HasNoSource, IsOutcomeAt, Moment, early_case}
+use Rattle.gb_semantics.specs.Made.{rest_of}
+use Rattle.gb_semantics.specs.Memory.{Memory, World, forget}
+use Rattle.gb_semantics.specs.Tree.{has_no_source, input_faults, listing_faults, reported_of_tree}
+use Rattle.gb_semantics.specs.TrueRecord.{outside}
+use Rattle.gb_semantics.specs.Execution.{FailureLeaves, FailurePrints, InventsNothing, IsGivenUp, IsWritten, WorldState as Exists, StartedExecution, TouchesRecordIn}
 use Rattle.gb_plan.specs.Graph.{Plan}
 use Rattle.gb_plan.specs.Task.{is_output_of, output_places, roots_of}
 use Rattle.gb_plan.specs.declared.task.Output.{Output}
 use Rattle.gb_plan.specs.declared.task.TaskDeclaration.{TaskDeclaration as Task}
 use Rattle.gb_plan.proofs.Tests.{not_false, not_true, or_right}
-use Rattle.gb_meaning.proofs.Common.{none_some}
+use Rattle.gb_semantics.proofs.Common.{none_some}
 use Rattle.gb_records.specs.Holding.{CannotBeStored}
 use Rattle.gb_report.specs.declared.fault.Fault.{Fault}
 use Rattle.gb_report.specs.declared.fault.Fault.TheVariants as faults

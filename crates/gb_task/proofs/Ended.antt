@@ -8,16 +8,16 @@ use Rattle.gb_action.specs.Files.{Trees}
 use Rattle.gb_core.specs.Lists.{byte_order}
 use Rattle.gb_folder.specs.Files.{Place, Bytes, Files, file_at, is_own}
 use Rattle.gb_history.specs.Record.{Prints}
-use Rattle.gb_meaning.specs.Kinds.{Kinds}
-use Rattle.gb_meaning.specs.Made.{made_of, put_over, rest_of, with_outputs}
-use Rattle.gb_meaning.specs.Memory.{entry_of, output_files}
-use Rattle.gb_meaning.specs.Tree.{trees_of}
-use Rattle.gb_meaning.specs.TrueRecord.{IsMade, output_record_of}
-use Rattle.gb_meaning.proofs.Lemmas.Files.{at-put_over, at-where, or_else, same_files, sorted-put_over, sorted-where}
-use Rattle.gb_meaning.proofs.Lemmas.Making.{IsRight, made_of_is_right}
-use Rattle.gb_meaning.proofs.Lemmas.Reading.{AllUnobserved, trees_same}
-use Rattle.gb_meaning.proofs.Lemmas.Sound.{unobserved_of}
-use Rattle.gb_meaning.proofs.Lemmas.Truth.{entry_made}
+use Rattle.gb_semantics.specs.Kinds.{Kinds}
+use Rattle.gb_semantics.specs.Made.{made_of, put_over, rest_of, with_outputs}
+use Rattle.gb_semantics.specs.Memory.{entry_of, output_files}
+use Rattle.gb_semantics.specs.Tree.{trees_of}
+use Rattle.gb_semantics.specs.TrueRecord.{IsMade, output_record_of}
+use Rattle.gb_semantics.proofs.Lemmas.Files.{at-put_over, at-where, or_else, same_files, sorted-put_over, sorted-where}
+use Rattle.gb_semantics.proofs.Lemmas.Making.{IsRight, made_of_is_right}
+use Rattle.gb_semantics.proofs.Lemmas.Reading.{AllUnobserved, trees_same}
+use Rattle.gb_semantics.proofs.Lemmas.Sound.{unobserved_of}
+use Rattle.gb_semantics.proofs.Lemmas.Truth.{entry_made}
 use Rattle.gb_plan.proofs.Places.{out_of}
 use Rattle.gb_plan.proofs.Tests.{not_false}
 use Rattle.gb_plan.specs.Graph.{reads_output_of}

@@ -11,14 +11,14 @@ use Rattle.gb_action.specs.Meanings.{Values}
 use Rattle.gb_action.specs.declared.reply.Written.{Written}
 use Rattle.gb_folder.specs.Files.{Place, Bytes, Contents, Files, file_at, files_under, files_where, is_blocked, is_empty, is_special_under, is_own, places_under, with_file}
 use Rattle.gb_folder.specs.Limits.{max_file, max_files}
-use Rattle.gb_meaning.specs.Kinds.{Kinds, kind_of}
-use Rattle.gb_meaning.specs.Made.{act, fault_if, file_faults, full_outputs, made_of, placed, put_over, put_result, step_faults}
-use Rattle.gb_meaning.specs.Tree.{reported_of_tree}
-use Rattle.gb_meaning.proofs.Common.{some_same}
-use Rattle.gb_meaning.proofs.Lemmas.Files.{at-with, or_else}
+use Rattle.gb_semantics.specs.Kinds.{Kinds, kind_of}
+use Rattle.gb_semantics.specs.Made.{act, fault_if, file_faults, full_outputs, made_of, placed, put_over, put_result, step_faults}
+use Rattle.gb_semantics.specs.Tree.{reported_of_tree}
+use Rattle.gb_semantics.proofs.Common.{some_same}
+use Rattle.gb_semantics.proofs.Lemmas.Files.{at-with, or_else}
 use Rattle.gb_plan.proofs.Tests.{not_true}
 use Rattle.gb_plan.specs.Task.{is_output_of}
-use Rattle.gb_meaning.specs.Memory.{output_files}
+use Rattle.gb_semantics.specs.Memory.{output_files}
 use Rattle.gb_plan.specs.declared.task.Action.{Action}
 use Rattle.gb_plan.specs.declared.task.Output.{Output}
 use Rattle.gb_report.specs.declared.fault.Fault.{Fault}

@@ -12,10 +12,10 @@ use Rattle.gb_label.specs.Looking.{IsHindered}
 use Rattle.gb_label.specs.Preparing.{IsPrepared, IsRead, IsObserved, MayPrepare}
 use Rattle.gb_label.specs.declared.prepare.Prepared.{Prepared}
 use Rattle.gb_label.specs.declared.prepare.Prepared.TheVariants as prepared
-use Rattle.gb_meaning.specs.Events.{Setting, ExistsInRun, is_touched_by, may_occur, own_files, rules_in}
-use Rattle.gb_meaning.specs.Label.{CannotRead, Early, HasNoActions, HasNoSource, IsOutcomeAt, Moment, Skips, early_case, some_outcome}
-use Rattle.gb_meaning.specs.TrueRecord.{outside}
-use Rattle.gb_meaning.specs.Execution.{ByMachine, Cause, FailedRunLeaves, FailedRunPrints, FailureLeaves, FailurePrints, WorldState as Exists, StartedExecution, cause_of}
+use Rattle.gb_semantics.specs.Events.{Setting, ExistsInRun, is_touched_by, may_occur, own_files, rules_in}
+use Rattle.gb_semantics.specs.Label.{CannotRead, Early, HasNoActions, HasNoSource, IsOutcomeAt, Moment, Skips, early_case, some_outcome}
+use Rattle.gb_semantics.specs.TrueRecord.{outside}
+use Rattle.gb_semantics.specs.Execution.{ByMachine, Cause, FailedRunLeaves, FailedRunPrints, FailureLeaves, FailurePrints, WorldState as Exists, StartedExecution, cause_of}
 use Rattle.gb_plan.specs.Graph.{Plan, needs_in}
 use Rattle.gb_plan.specs.Task.{Path, is_output_of}
 use Rattle.gb_plan.specs.declared.task.Output.{Output}

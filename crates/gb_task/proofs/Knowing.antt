@@ -8,12 +8,12 @@ use Rattle.gb_core.specs.Lists.{byte_order}
 use Rattle.gb_folder.specs.Files.{Bytes, Files, file_at, is_empty}
 use Rattle.gb_history.specs.Places.{record_place}
 use Rattle.gb_history.specs.Record.{Record}
-use Rattle.gb_meaning.specs.Kinds.{Kinds}
-use Rattle.gb_meaning.specs.Memory.{Entry, Memory, World, entry_of, folder_contents, recalled}
-use Rattle.gb_meaning.specs.TrueRecord.{AreCollisionFree, IsMade, IsTextOfNoRecord, Stores, contents_of, record_of}
-use Rattle.gb_meaning.proofs.Common.{none_some, some_same}
-use Rattle.gb_meaning.proofs.Lemmas.Clear.{Among, separate_of_fewer, in_left, in_one, in_right}
-use Rattle.gb_meaning.proofs.Lemmas.Observed.{entry_observed}
+use Rattle.gb_semantics.specs.Kinds.{Kinds}
+use Rattle.gb_semantics.specs.Memory.{Entry, Memory, World, entry_of, folder_contents, recalled}
+use Rattle.gb_semantics.specs.TrueRecord.{AreCollisionFree, IsMade, IsTextOfNoRecord, Stores, contents_of, record_of}
+use Rattle.gb_semantics.proofs.Common.{none_some, some_same}
+use Rattle.gb_semantics.proofs.Lemmas.Clear.{Among, separate_of_fewer, in_left, in_one, in_right}
+use Rattle.gb_semantics.proofs.Lemmas.Observed.{entry_observed}
 use Rattle.gb_plan.specs.Task.{Path, has_path}
 use Rattle.gb_plan.specs.declared.task.TaskDeclaration.{TaskDeclaration as Task}
 use Rattle.gb_records.specs.Digests.{IsClearTo}

@@ -14,13 +14,13 @@ use Rattle.gb_history.specs.declared.decide.Decision.{Decision}
 use Rattle.gb_history.specs.declared.decide.Decision.TheVariants as decisions
 use Rattle.gb_label.specs.Preparing.{IsReadFor, IsObservedFor}
 use Rattle.gb_label.specs.declared.prepare.Observed.{Observed}
-use Rattle.gb_meaning.specs.Events.{IsTornInRun, ExistsInRun, is_record_shut_out, is_record_too_long, may_occur, own_files, rules_in}
-use Rattle.gb_meaning.specs.Kinds.{Kinds}
-use Rattle.gb_meaning.specs.Label.{IsOutcomeOf, Moment, changes_from, early_case}
-use Rattle.gb_meaning.specs.Memory.{Entry, World, recalled}
-use Rattle.gb_meaning.specs.TrueRecord.{IsMade, outside}
-use Rattle.gb_meaning.specs.Execution.{IsOfMachine, WorldState as Exists, StartedExecution}
-use Rattle.gb_meaning.proofs.Common.{none_some}
+use Rattle.gb_semantics.specs.Events.{IsTornInRun, ExistsInRun, is_record_shut_out, is_record_too_long, may_occur, own_files, rules_in}
+use Rattle.gb_semantics.specs.Kinds.{Kinds}
+use Rattle.gb_semantics.specs.Label.{IsOutcomeOf, Moment, changes_from, early_case}
+use Rattle.gb_semantics.specs.Memory.{Entry, World, recalled}
+use Rattle.gb_semantics.specs.TrueRecord.{IsMade, outside}
+use Rattle.gb_semantics.specs.Execution.{IsOfMachine, WorldState as Exists, StartedExecution}
+use Rattle.gb_semantics.proofs.Common.{none_some}
 use Rattle.gb_plan.specs.Graph.{Plan}
 use Rattle.gb_plan.specs.declared.task.TaskDeclaration.{TaskDeclaration as Task}
 use Rattle.gb_records.specs.Holding.{HoldsRecords}

@@ -35,5 +35,5 @@ pub mod Made
 pub mod Truth
 pub mod Answered
 pub mod ByOutcome
-mod SeenAfter
+mod CacheAfter
 mod CallRows

@@ -16,8 +16,8 @@ use Rattle.gb_action.specs.declared.reply.Written.{Written}
 use Rattle.gb_plan.specs.declared.task.Action.{Action}
 use Rattle.gb_plan.specs.declared.task.Output.{Output}
 use Rattle.gb_plan.proofs.Tests.{no_longer, none_right}
-use Rattle.gb_meaning.specs.Kinds.{Kinds, kind_of}
-use Rattle.gb_meaning.specs.Made.{act, fault_if, file_faults, made_of, placed, put_over, put_result, step_faults}
+use Rattle.gb_semantics.specs.Kinds.{Kinds, kind_of}
+use Rattle.gb_semantics.specs.Made.{act, fault_if, file_faults, made_of, placed, put_over, put_result, step_faults}
 
 -- each place of these files passes the test
 abbrev AllAt : (Place → Bool) → List (Place × Bytes) → Type 0

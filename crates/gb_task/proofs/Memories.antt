@@ -4,8 +4,8 @@ use Rattle.std.specs.FinMap.Entries.{find-put, find-where_key, is_sorted, is_sor
 use Rattle.std.proofs.Common.{refl, sym, ap, ◌∙◌}
 use Rattle.std.proofs.lemmas.Map.Text.{is_eq-slice_cmp}
 use Rattle.gb_core.specs.Lists.{byte_order}
-use Rattle.gb_meaning.specs.Memory.{Entry, Memory, forget, recalled, remember}
-use Rattle.gb_meaning.proofs.Lemmas.Files.{T_of, of_T, tied_same, total}
+use Rattle.gb_semantics.specs.Memory.{Entry, Memory, forget, recalled, remember}
+use Rattle.gb_semantics.proofs.Lemmas.Files.{T_of, of_T, tied_same, total}
 use Rattle.gb_plan.specs.Task.{Path}
 
 pub recalled-forget : (memory : Memory) (path other : Path) → recalled (forget memory path) other ≡ cond (not (bytes_eq other path)) (recalled memory other) None

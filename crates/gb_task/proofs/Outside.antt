@@ -6,10 +6,10 @@ use Rattle.gb_core.specs.Place.{is_under}
 use Rattle.gb_action.specs.Changes.{Changes, changes_between}
 use Rattle.gb_action.specs.Files.{Tree, Trees}
 use Rattle.gb_folder.specs.Files.{Place, Bytes, Contents, Files, files_where, is_empty, is_own, places_under}
-use Rattle.gb_meaning.specs.Label.{CannotRead, HasNoActions, HasNoSource, Skips, changes_from, early_case}
-use Rattle.gb_meaning.specs.Tree.{has_no_source, input_faults, listing_faults, reported_of_tree, tree_faults, tree_of, trees_of}
-use Rattle.gb_meaning.specs.TrueRecord.{outside}
-use Rattle.gb_meaning.proofs.Lemmas.Reading.{all_flat_map, all_in_order, all_map}
+use Rattle.gb_semantics.specs.Label.{CannotRead, HasNoActions, HasNoSource, Skips, changes_from, early_case}
+use Rattle.gb_semantics.specs.Tree.{has_no_source, input_faults, listing_faults, reported_of_tree, tree_faults, tree_of, trees_of}
+use Rattle.gb_semantics.specs.TrueRecord.{outside}
+use Rattle.gb_semantics.proofs.Lemmas.Reading.{all_flat_map, all_in_order, all_map}
 use Rattle.gb_plan.proofs.Tests.{left_of}
 use Rattle.gb_plan.specs.declared.task.FileProperty.{FileProperty}
 use Rattle.gb_plan.specs.declared.task.TaskDeclaration.{TaskDeclaration as Task}

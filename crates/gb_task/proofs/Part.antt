@@ -5,7 +5,7 @@ use Rattle.std.proofs.Common.{refl, ap, ap₂, ◌∙◌}
 use Rattle.gb_core.specs.Place.{is_under}
 use Rattle.gb_folder.specs.Files.{Place, Bytes, Files, file_at, files_under, files_where, is_own, places_under}
 use Rattle.gb_folder.proofs.Changes.{file_at-files_where}
-use Rattle.gb_meaning.proofs.Lemmas.Reading.{all_map, all_where}
+use Rattle.gb_semantics.proofs.Lemmas.Reading.{all_map, all_where}
 use Rattle.gb_plan.proofs.Tests.{or_right}
 use Rattle.gb_plan.specs.declared.task.Output.{Output}
 use Rattle.gb_run.proofs.Owned.{narrowed}

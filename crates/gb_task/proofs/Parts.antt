@@ -7,7 +7,7 @@ use Rattle.gb_core.specs.Place.{is_beneath}
 use Rattle.gb_folder.specs.Files.{Place, Contents, DiffersOnlyAt, Files, files_where, is_blocked, is_own}
 use Rattle.gb_folder.proofs.Beneath.{not_beneath_itself}
 use Rattle.gb_history.specs.Places.{record_place}
-use Rattle.gb_meaning.specs.TrueRecord.{outside}
+use Rattle.gb_semantics.specs.TrueRecord.{outside}
 use Rattle.gb_plan.proofs.Tests.{neither, no_longer, not_false, not_true}
 use Rattle.gb_plan.specs.Task.{Path, is_output_of}
 use Rattle.gb_plan.specs.declared.task.Output.{Output}

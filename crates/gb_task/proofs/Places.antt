@@ -9,7 +9,7 @@ use Rattle.std.proofs.lemmas.List.Sums.{list_all-from_AllPass}
 use Rattle.gb_action.specs.Changes.{Changes}
 use Rattle.gb_action.specs.Files.{Trees}
 use Rattle.gb_action.specs.Meanings.{Meanings}
-use Rattle.gb_action.specs.declared.output.OutputFiles.{OutputFiles}
+use Rattle.gb_action.specs.declared.output_files.OutputFiles.{OutputFiles}
 use Rattle.gb_core.specs.Place.{is_under}
 use Rattle.gb_folder.specs.Calls.{Requests, Call, IsPermitted, Lists, Reads, ReadsPart, Removes, Writes, changes_at, put_at, taken_at, takes_at, Device}
 use Rattle.gb_folder.proofs.Asked.{change_at, requests_more, requests_put, requests_taken, requests_where, take_at, takes_where, taking_is_change}
@@ -21,7 +21,7 @@ use Rattle.gb_folder.proofs.Leading.{requests_of}
 use Rattle.gb_history.specs.Places.{record_place}
 use Rattle.gb_history.specs.Record.{Record}
 use Rattle.gb_history.specs.Text.{record_text}
-use Rattle.gb_meaning.specs.Events.{max_record}
+use Rattle.gb_semantics.specs.Events.{max_record}
 use Rattle.gb_plan.specs.Ready.{Rows}
 use Rattle.gb_plan.specs.Task.{Text, is_output_of}
 use Rattle.gb_plan.specs.declared.task.Output.{Output}

@@ -6,7 +6,7 @@ use Rattle.gb_core.specs.Place.{is_under}
 use Rattle.gb_folder.specs.Files.{Place, Files, files_where}
 use Rattle.gb_history.specs.Record.{Record}
 use Rattle.gb_history.specs.declared.record.OutputRecord.{OutputRecord}
-use Rattle.gb_meaning.specs.Tree.{trees_of}
+use Rattle.gb_semantics.specs.Tree.{trees_of}
 use Rattle.gb_plan.specs.Task.{is_output_of}
 use Rattle.gb_plan.specs.declared.task.Output.{Output}
 use Rattle.gb_tree.specs.Prints.{digests_of}

@@ -3,7 +3,7 @@ use Rattle.std.specs.Prelude.{◌≡◌, false, List, [], ◌∷◌, Some, map}
 use Rattle.std.specs.List.{list_any}
 use Rattle.std.proofs.Common.{refl, sym, ap, subst, ◌∙◌}
 use Rattle.gb_action.specs.Changes.{Changes}
-use Rattle.gb_action.specs.declared.output.OutputFiles.{OutputFiles}
+use Rattle.gb_action.specs.declared.output_files.OutputFiles.{OutputFiles}
 use Rattle.gb_task.specs.Case.{IsCaseFor, IsCaseOf, OutsideIsEnough, PreparedIsCase}
 use Rattle.gb_folder.specs.Files.{Contents, Files, is_own}
 use Rattle.gb_history.specs.Decision.{DecidesFrom}
@@ -18,11 +18,11 @@ use Rattle.gb_label.specs.Preparing.{IsPrepared}
 use Rattle.gb_label.specs.declared.prepare.Prepared.TheVariants as prepared
 use Rattle.gb_label.specs.declared.prepare.Observed.{Observed}
 use Rattle.gb_label.proofs.Recorded.{prints_with}
-use Rattle.gb_meaning.specs.Kinds.{Kinds}
-use Rattle.gb_meaning.specs.Label.{early_case}
-use Rattle.gb_meaning.specs.Memory.{World}
-use Rattle.gb_meaning.specs.Tree.{trees_of}
-use Rattle.gb_meaning.specs.TrueRecord.{outside}
+use Rattle.gb_semantics.specs.Kinds.{Kinds}
+use Rattle.gb_semantics.specs.Label.{early_case}
+use Rattle.gb_semantics.specs.Memory.{World}
+use Rattle.gb_semantics.specs.Tree.{trees_of}
+use Rattle.gb_semantics.specs.TrueRecord.{outside}
 use Rattle.gb_plan.specs.Task.{given_files, given_outputs}
 use Rattle.gb_plan.specs.declared.task.Output.{Output}
 use Rattle.gb_plan.specs.declared.task.TaskDeclaration.{TaskDeclaration as Task}

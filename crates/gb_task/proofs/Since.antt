@@ -9,7 +9,7 @@ use Rattle.gb_action.specs.Changes.{Changes, changes_between}
 use Rattle.gb_action.specs.Files.{Tree, Trees, tree_at}
 use Rattle.gb_action.specs.Replies.{DescribesChangesFrom}
 use Rattle.gb_action.specs.declared.change.Change.{Change}
-use Rattle.gb_action.specs.declared.output.OutputFiles.{OutputFiles}
+use Rattle.gb_action.specs.declared.output_files.OutputFiles.{OutputFiles}
 use Rattle.gb_core.specs.Lists.{byte_order}
 use Rattle.gb_core.specs.Path.{is_task_path}
 use Rattle.gb_core.specs.Place.{is_under}
@@ -19,14 +19,14 @@ use Rattle.gb_history.specs.Places.{record_place}
 use Rattle.gb_history.specs.Record.{ArePrints}
 use Rattle.gb_history.proofs.Rising.{ascends-is_sorted}
 use Rattle.gb_label.specs.Deciding.{HasNamesInOrder}
-use Rattle.gb_meaning.specs.Kinds.{Kinds}
-use Rattle.gb_meaning.specs.Label.{IsIncremental, changes_from}
-use Rattle.gb_meaning.specs.Made.{made_of}
-use Rattle.gb_meaning.specs.Memory.{Entry, Memory, output_files, recalled}
-use Rattle.gb_meaning.specs.Tree.{tree_of, trees_of}
-use Rattle.gb_meaning.specs.TrueRecord.{IsMade, Stores, outside, prints_of, record_of}
-use Rattle.gb_meaning.proofs.Common.{none_some}
-use Rattle.gb_meaning.proofs.Lemmas.Files.{same_place}
+use Rattle.gb_semantics.specs.Kinds.{Kinds}
+use Rattle.gb_semantics.specs.Label.{IsIncremental, changes_from}
+use Rattle.gb_semantics.specs.Made.{made_of}
+use Rattle.gb_semantics.specs.Memory.{Entry, Memory, output_files, recalled}
+use Rattle.gb_semantics.specs.Tree.{tree_of, trees_of}
+use Rattle.gb_semantics.specs.TrueRecord.{IsMade, Stores, outside, prints_of, record_of}
+use Rattle.gb_semantics.proofs.Common.{none_some}
+use Rattle.gb_semantics.proofs.Lemmas.Files.{same_place}
 use Rattle.gb_plan.specs.Graph.{some_overlap}
 use Rattle.gb_plan.specs.Task.{is_output_of, output_places}
 use Rattle.gb_plan.specs.declared.task.FileProperty.{FileProperty}

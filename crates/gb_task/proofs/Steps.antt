@@ -13,18 +13,18 @@ use Rattle.gb_folder.proofs.Changes.{HasRisen-after, HasRisen-before, file_at-fi
 use Rattle.gb_history.specs.Places.{record_place}
 use Rattle.gb_history.specs.Record.{Prints, Record}
 use Rattle.gb_history.specs.Text.{record_text}
-use Rattle.gb_meaning.specs.Events.{IsTornInRun, Setting, ExistsInRun, is_record_shut_out, is_record_too_long, is_touched_by, max_record, may_occur, own_files}
-use Rattle.gb_meaning.specs.Kinds.{Kinds}
-use Rattle.gb_meaning.specs.Label.{Early, Moment, early_case, has_one_writer, run_of}
-use Rattle.gb_meaning.specs.Made.{made, made_of, rest_of, with_outputs}
-use Rattle.gb_meaning.specs.Memory.{Entry, Memory, World, entry_of, forget, recalled, remember}
-use Rattle.gb_meaning.specs.Run.{Ended}
-use Rattle.gb_meaning.specs.Tree.{has_no_source, listing_faults, reported_of_tree, trees_of}
-use Rattle.gb_meaning.specs.TrueRecord.{outside, record_of}
-use Rattle.gb_meaning.specs.Execution.{ByMachine, HasEnded, InventsNothing, IsWritten, KeepsRightFiles, WorldState as Exists, TouchesRecordIn, cause_of, lines_of, memory_after}
-use Rattle.gb_meaning.proofs.Common.{none_some}
-use Rattle.gb_meaning.proofs.Lemmas.Files.{at-put_over, or_else}
-use Rattle.gb_meaning.proofs.Lemmas.Making.{made_of_is_right}
+use Rattle.gb_semantics.specs.Events.{IsTornInRun, Setting, ExistsInRun, is_record_shut_out, is_record_too_long, is_touched_by, max_record, may_occur, own_files}
+use Rattle.gb_semantics.specs.Kinds.{Kinds}
+use Rattle.gb_semantics.specs.Label.{Early, Moment, early_case, has_one_writer, run_of}
+use Rattle.gb_semantics.specs.Made.{made, made_of, rest_of, with_outputs}
+use Rattle.gb_semantics.specs.Memory.{Entry, Memory, World, entry_of, forget, recalled, remember}
+use Rattle.gb_semantics.specs.Run.{Ended}
+use Rattle.gb_semantics.specs.Tree.{has_no_source, listing_faults, reported_of_tree, trees_of}
+use Rattle.gb_semantics.specs.TrueRecord.{outside, record_of}
+use Rattle.gb_semantics.specs.Execution.{ByMachine, HasEnded, InventsNothing, IsWritten, KeepsRightFiles, WorldState as Exists, TouchesRecordIn, cause_of, lines_of, memory_after}
+use Rattle.gb_semantics.proofs.Common.{none_some}
+use Rattle.gb_semantics.proofs.Lemmas.Files.{at-put_over, or_else}
+use Rattle.gb_semantics.proofs.Lemmas.Making.{made_of_is_right}
 use Rattle.gb_plan.specs.Graph.{Plan, reads_output_of}
 use Rattle.gb_plan.specs.Task.{Path, Text, is_output_of, output_places, roots_of}
 use Rattle.gb_plan.specs.declared.task.Action.{Action}

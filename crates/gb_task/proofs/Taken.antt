@@ -5,8 +5,8 @@ use Rattle.std.proofs.Common.{sym, ap, subst, ◌∙◌, inl, inr}
 use Rattle.gb_folder.specs.Files.{Place, Bytes, Contents, Files, file_at, is_own}
 use Rattle.gb_folder.proofs.Changes.{file_at-files_where}
 use Rattle.gb_history.specs.Places.{record_place}
-use Rattle.gb_meaning.specs.Events.{IsTornInRun, Setting, ExistsInRun}
-use Rattle.gb_meaning.specs.Execution.{IsWritten}
+use Rattle.gb_semantics.specs.Events.{IsTornInRun, Setting, ExistsInRun}
+use Rattle.gb_semantics.specs.Execution.{IsWritten}
 use Rattle.gb_plan.specs.Task.{is_output_of}
 use Rattle.gb_plan.specs.declared.task.Output.{Output}
 use Rattle.gb_plan.specs.declared.task.TaskDeclaration.{TaskDeclaration as Task}

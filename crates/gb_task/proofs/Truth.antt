@@ -12,8 +12,8 @@ use Rattle.gb_action.specs.Files.{Tree, Trees, tree_at}
 use Rattle.gb_action.specs.Meanings.{Meanings}
 use Rattle.gb_action.specs.Replies.{DescribesChangesFrom}
 use Rattle.gb_action.specs.declared.change.Change.{Change}
-use Rattle.gb_action.specs.declared.output.Form.{Form}
-use Rattle.gb_action.specs.declared.output.OutputFiles.{OutputFiles}
+use Rattle.gb_action.specs.declared.output_files.Form.{Form}
+use Rattle.gb_action.specs.declared.output_files.OutputFiles.{OutputFiles}
 use Rattle.gb_core.specs.Lists.{byte_order}
 use Rattle.gb_folder.specs.Files.{Place, Bytes, Files, IsFolder, are_placed, file_at}
 use Rattle.gb_history.specs.Decision.{IsAlike, changes_of, is_incremental}
@@ -21,14 +21,14 @@ use Rattle.gb_history.specs.Record.{ArePrints, IsWellFormed, Prints, Record, pri
 use Rattle.gb_history.specs.Text.{record_text}
 use Rattle.gb_history.specs.declared.decide.Present.{Present}
 use Rattle.gb_run.specs.AskingChanges.{GoesOn, request_of}
-use Rattle.gb_meaning.proofs.Common.{none_some}
-use Rattle.gb_meaning.specs.Kinds.{Kinds}
-use Rattle.gb_meaning.specs.Label.{has_one_writer}
-use Rattle.gb_meaning.specs.Made.{made_of}
-use Rattle.gb_meaning.specs.Memory.{Entry, output_files}
-use Rattle.gb_meaning.specs.TrueRecord.{contents_in, contents_of, prints_of}
-use Rattle.gb_meaning.proofs.Lemmas.Files.{at-where, same_files, same_place, sorted-where}
-use Rattle.gb_meaning.proofs.Lemmas.Making.{IsRight, made_of_is_right}
+use Rattle.gb_semantics.proofs.Common.{none_some}
+use Rattle.gb_semantics.specs.Kinds.{Kinds}
+use Rattle.gb_semantics.specs.Label.{has_one_writer}
+use Rattle.gb_semantics.specs.Made.{made_of}
+use Rattle.gb_semantics.specs.Memory.{Entry, output_files}
+use Rattle.gb_semantics.specs.TrueRecord.{contents_in, contents_of, prints_of}
+use Rattle.gb_semantics.proofs.Lemmas.Files.{at-where, same_files, same_place, sorted-where}
+use Rattle.gb_semantics.proofs.Lemmas.Making.{IsRight, made_of_is_right}
 use Rattle.gb_plan.specs.Task.{is_output_of, given_files, given_outputs}
 use Rattle.gb_plan.specs.declared.task.Output.{Output}
 use Rattle.gb_plan.specs.declared.task.TaskDeclaration.{TaskDeclaration as Task}

@@ -2,7 +2,7 @@
 use Rattle.std.specs.Prelude.{ℕ, ◌≢◌, Option, Err}
 use Rattle.std.proofs.Common.{refl, inl, inr}
 use Rattle.gb_folder.specs.Files.{Bytes, Contents, Files, Place, Tearing}
-use Rattle.gb_meaning.specs.Memory.{Entry, Memory}
+use Rattle.gb_semantics.specs.Memory.{Entry, Memory}
 use Rattle.gb_plan.specs.Task.{Path}
 use Rattle.gb_plan.specs.declared.task.TaskDeclaration.{TaskDeclaration as Task}
 use Rattle.gb_records.specs.Faults.{reported_of}

@@ -9,11 +9,11 @@ use Rattle.gb_action.specs.Files.{Trees}
 use Rattle.gb_core.specs.Lists.{byte_order}
 use Rattle.gb_folder.specs.Files.{Contents, Files, Place, SameTearing, Tearing, is_empty, is_own}
 use Rattle.gb_history.specs.Record.{Prints}
-use Rattle.gb_meaning.specs.Kinds.{Kinds}
-use Rattle.gb_meaning.specs.Label.{Moment, changes_from}
-use Rattle.gb_meaning.specs.Memory.{Entry, Memory, forget}
-use Rattle.gb_meaning.specs.Tree.{trees_of}
-use Rattle.gb_meaning.specs.TrueRecord.{outside}
+use Rattle.gb_semantics.specs.Kinds.{Kinds}
+use Rattle.gb_semantics.specs.Label.{Moment, changes_from}
+use Rattle.gb_semantics.specs.Memory.{Entry, Memory, forget}
+use Rattle.gb_semantics.specs.Tree.{trees_of}
+use Rattle.gb_semantics.specs.TrueRecord.{outside}
 use Rattle.gb_plan.specs.Graph.{Plan, reads_output_of}
 use Rattle.gb_plan.specs.Task.{Text, is_output_of}
 use Rattle.gb_plan.specs.declared.task.Output.{Output}

@@ -12,12 +12,12 @@ use Rattle.gb_label.specs.Preparing.{IsPrepared}
 use Rattle.gb_label.specs.declared.prepare.Prepared.{Prepared}
 use Rattle.gb_label.specs.declared.prepare.Prepared.TheVariants as prepared
 use Rattle.gb_label.specs.Reading.{digests_in, print_faults, recorded_of}
-use Rattle.gb_meaning.specs.Kinds.{Kinds}
-use Rattle.gb_meaning.specs.Label.{HasNoActions, HasNoSource, IsCurrent, IsIncremental, Skips}
-use Rattle.gb_meaning.specs.Label.{changes_from, early_case, has_one_writer}
-use Rattle.gb_meaning.specs.Memory.{Entry, World, output_files, recalled}
-use Rattle.gb_meaning.specs.Tree.{listing_faults, trees_of}
-use Rattle.gb_meaning.specs.TrueRecord.{IsMade, outside}
+use Rattle.gb_semantics.specs.Kinds.{Kinds}
+use Rattle.gb_semantics.specs.Label.{HasNoActions, HasNoSource, IsCurrent, IsIncremental, Skips}
+use Rattle.gb_semantics.specs.Label.{changes_from, early_case, has_one_writer}
+use Rattle.gb_semantics.specs.Memory.{Entry, World, output_files, recalled}
+use Rattle.gb_semantics.specs.Tree.{listing_faults, trees_of}
+use Rattle.gb_semantics.specs.TrueRecord.{IsMade, outside}
 use Rattle.gb_plan.specs.declared.task.TaskDeclaration.{TaskDeclaration as Task}
 use Rattle.gb_records.specs.Digests.{IsClearTo, IsPresent}
 use Rattle.gb_records.specs.Said.{IsSaidOf}

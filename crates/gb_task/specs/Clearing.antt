@@ -2,8 +2,8 @@
 use Rattle.std.specs.Prelude.{ℕ, ◌≡◌, ◌⊎◌, Bool, true, None, Result, Ok, Err}
 use Rattle.gb_folder.specs.Files.{Contents, IsFolder, Tearing}
 use Rattle.gb_history.specs.Places.{record_place}
-use Rattle.gb_meaning.specs.Made.{rest_of}
-use Rattle.gb_meaning.specs.Memory.{Memory, forget}
+use Rattle.gb_semantics.specs.Made.{rest_of}
+use Rattle.gb_semantics.specs.Memory.{Memory, forget}
 use Rattle.gb_plan.specs.declared.task.TaskDeclaration.{TaskDeclaration as Task}
 use Rattle.gb_records.specs.Holding.{HoldsRecords}
 use Rattle.gb_report.specs.declared.fault.Fault.{Fault}

@@ -1,7 +1,7 @@
 -- What an execution is based on, as calls returned it, over any folder.
 use Rattle.std.specs.Prelude.{◌≡◌, Bool, true, false, List, map, Option, Some}
 use Rattle.gb_action.specs.Files.{Trees}
-use Rattle.gb_action.specs.declared.output.OutputFiles.{OutputFiles}
+use Rattle.gb_action.specs.declared.output_files.OutputFiles.{OutputFiles}
 use Rattle.gb_folder.specs.Files.{is_empty}
 use Rattle.gb_history.specs.Decision.{DecidesFrom}
 use Rattle.gb_history.specs.Record.{Record}

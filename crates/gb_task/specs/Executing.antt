@@ -4,12 +4,12 @@ use Rattle.gb_action.specs.Changes.{Changes}
 use Rattle.gb_folder.specs.Files.{Contents, Files, Place, Tearing, is_empty}
 use Rattle.gb_history.specs.Places.{record_place}
 use Rattle.gb_history.specs.Record.{Record}
-use Rattle.gb_meaning.specs.Events.{Setting, own_files, rules_in}
-use Rattle.gb_meaning.specs.Kinds.{Kinds, Name}
-use Rattle.gb_meaning.specs.Label.{IsCurrent, IsIncremental, Moment, changes_from, early_case}
-use Rattle.gb_meaning.specs.Memory.{Memory, World, recalled}
-use Rattle.gb_meaning.specs.TrueRecord.{IsMade, outside}
-use Rattle.gb_meaning.specs.Execution.{StartedExecution}
+use Rattle.gb_semantics.specs.Events.{Setting, own_files, rules_in}
+use Rattle.gb_semantics.specs.Kinds.{Kinds, Name}
+use Rattle.gb_semantics.specs.Label.{IsCurrent, IsIncremental, Moment, changes_from, early_case}
+use Rattle.gb_semantics.specs.Memory.{Memory, World, recalled}
+use Rattle.gb_semantics.specs.TrueRecord.{IsMade, outside}
+use Rattle.gb_semantics.specs.Execution.{StartedExecution}
 use Rattle.gb_plan.specs.Graph.{Plan, Registry}
 use Rattle.gb_plan.specs.Task.{Text, is_output_of}
 use Rattle.gb_plan.specs.declared.task.TaskDeclaration.{TaskDeclaration as Task}

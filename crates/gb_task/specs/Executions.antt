@@ -6,11 +6,11 @@ use Rattle.gb_history.specs.declared.decide.Decision.{Decision}
 use Rattle.gb_history.specs.declared.decide.Decision.TheVariants as decisions
 use Rattle.gb_label.specs.declared.prepare.Prepared.{Prepared}
 use Rattle.gb_label.specs.declared.prepare.Prepared.TheVariants as prepared
-use Rattle.gb_meaning.specs.Kinds.{Kinds}
-use Rattle.gb_meaning.specs.Label.{AreChanges, IsCurrent, IsIncremental, IsOutcomeOf, Moment}
-use Rattle.gb_meaning.specs.Label.{changes_from, has_one_writer, some_outcome}
-use Rattle.gb_meaning.specs.Memory.{World}
-use Rattle.gb_meaning.specs.Execution.{Leaves, Prints}
+use Rattle.gb_semantics.specs.Kinds.{Kinds}
+use Rattle.gb_semantics.specs.Label.{AreChanges, IsCurrent, IsIncremental, IsOutcomeOf, Moment}
+use Rattle.gb_semantics.specs.Label.{changes_from, has_one_writer, some_outcome}
+use Rattle.gb_semantics.specs.Memory.{World}
+use Rattle.gb_semantics.specs.Execution.{Leaves, Prints}
 use Rattle.gb_plan.specs.Graph.{Plan, needs_in}
 use Rattle.gb_plan.specs.declared.task.TaskDeclaration.{TaskDeclaration as Task}
 use Rattle.gb_report.specs.Outcome.{is_executed, is_failed}

@@ -4,9 +4,9 @@ use Rattle.gb_action.specs.Files.{Trees}
 use Rattle.gb_folder.specs.Files.{Bytes, Files, HasRisen, is_empty}
 use Rattle.gb_history.specs.Record.{Prints, Record}
 use Rattle.gb_label.specs.Reading.{digests_in, recorded_of}
-use Rattle.gb_meaning.specs.Kinds.{Kinds}
-use Rattle.gb_meaning.specs.Made.{made_of}
-use Rattle.gb_meaning.specs.Memory.{Entry, Memory, forget, remember}
+use Rattle.gb_semantics.specs.Kinds.{Kinds}
+use Rattle.gb_semantics.specs.Made.{made_of}
+use Rattle.gb_semantics.specs.Memory.{Entry, Memory, forget, remember}
 use Rattle.gb_plan.specs.Task.{Path}
 use Rattle.gb_plan.specs.declared.task.TaskDeclaration.{TaskDeclaration as Task}
 use Rattle.gb_records.specs.Holding.{CannotBeStored, HoldsRecords}

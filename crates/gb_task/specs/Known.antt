@@ -5,9 +5,9 @@ use Rattle.sha2.specs.Sha256.{sha256}
 use Rattle.gb_core.specs.Path.{is_task_path}
 use Rattle.gb_folder.specs.Files.{Files, IsFolder, are_placed, is_empty, is_own}
 use Rattle.gb_history.specs.Record.{Record}
-use Rattle.gb_meaning.specs.Kinds.{Kinds}
-use Rattle.gb_meaning.specs.Memory.{Memory, World, folder_contents, recalled}
-use Rattle.gb_meaning.specs.TrueRecord.{AreCollisionFree, IsMade, contents_of}
+use Rattle.gb_semantics.specs.Kinds.{Kinds}
+use Rattle.gb_semantics.specs.Memory.{Memory, World, folder_contents, recalled}
+use Rattle.gb_semantics.specs.TrueRecord.{AreCollisionFree, IsMade, contents_of}
 use Rattle.gb_plan.specs.declared.task.TaskDeclaration.{TaskDeclaration as Task}
 use Rattle.gb_records.specs.Said.{IsReadAt}
 use Rattle.gb_records.specs.Holding.{HoldsRecords}

@@ -14,4 +14,4 @@ pub mod Current
 pub mod Stages
 pub mod Ran
 pub mod ByOutcome
-pub mod Seen
+pub mod CacheChanges

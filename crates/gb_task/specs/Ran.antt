@@ -4,15 +4,15 @@ use Rattle.std.specs.Prelude.{IsTrue, is_some}
 use Rattle.gb_action.specs.Changes.{Changes}
 use Rattle.gb_action.specs.Files.{Trees}
 use Rattle.gb_action.specs.Meanings.{Meanings}
-use Rattle.gb_action.specs.declared.output.OutputFiles.{OutputFiles}
+use Rattle.gb_action.specs.declared.output_files.OutputFiles.{OutputFiles}
 use Rattle.gb_folder.specs.Calls.{Requests, Call, no_change, Device}
 use Rattle.gb_folder.specs.Device.{Leads}
 use Rattle.gb_history.specs.Record.{Record}
 use Rattle.gb_label.specs.Answered.{WasSourced, WasSourceless}
 use Rattle.gb_label.specs.ReadingAnswered.{AreInputsRead, AreOutputsRead}
-use Rattle.gb_meaning.specs.Headline.{Agrees}
-use Rattle.gb_meaning.specs.Kinds.{Kinds}
-use Rattle.gb_meaning.specs.Label.{has_one_writer}
+use Rattle.gb_semantics.specs.Headline.{Agrees}
+use Rattle.gb_semantics.specs.Kinds.{Kinds}
+use Rattle.gb_semantics.specs.Label.{has_one_writer}
 use Rattle.gb_plan.specs.Ready.{Rows}
 use Rattle.gb_plan.specs.Task.{Text, given_files, given_outputs}
 use Rattle.gb_plan.specs.declared.task.TaskDeclaration.{TaskDeclaration as Task}

@@ -2,7 +2,7 @@
 use Rattle.std.specs.Prelude.{◌≡◌, List, map}
 use Rattle.gb_action.specs.Changes.{Changes}
 use Rattle.gb_action.specs.Files.{Trees}
-use Rattle.gb_action.specs.declared.output.OutputFiles.{OutputFiles}
+use Rattle.gb_action.specs.declared.output_files.OutputFiles.{OutputFiles}
 use Rattle.gb_folder.specs.Files.{Files}
 use Rattle.gb_history.specs.Decision.{DecidesFrom}
 use Rattle.gb_history.specs.Record.{Record}
@@ -13,9 +13,9 @@ use Rattle.gb_label.specs.Deciding.{IsPresentOf}
 use Rattle.gb_label.specs.Reading.{digests_in, prints_observed, records_with, observed_of}
 use Rattle.gb_label.specs.declared.inputs.Inputs.{Inputs}
 use Rattle.gb_label.specs.declared.outputs.Outputs.{Outputs}
-use Rattle.gb_meaning.specs.Kinds.{Kinds}
-use Rattle.gb_meaning.specs.Memory.{World}
-use Rattle.gb_meaning.specs.Tree.{trees_of}
+use Rattle.gb_semantics.specs.Kinds.{Kinds}
+use Rattle.gb_semantics.specs.Memory.{World}
+use Rattle.gb_semantics.specs.Tree.{trees_of}
 use Rattle.gb_plan.specs.Task.{given_files, given_outputs}
 use Rattle.gb_plan.specs.declared.task.TaskDeclaration.{TaskDeclaration as Task}
 use Rattle.gb_report.specs.declared.report.Options.{Options}

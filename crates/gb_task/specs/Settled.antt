@@ -9,10 +9,10 @@ use Rattle.gb_label.specs.Preparing.{IsReadFor, IsObservedFor}
 use Rattle.gb_label.specs.declared.prepare.Prepared.{Prepared}
 use Rattle.gb_label.specs.declared.prepare.Prepared.TheVariants as prepared
 use Rattle.gb_label.specs.Reading.{is_input_of}
-use Rattle.gb_meaning.specs.Events.{Setting, own_files, rules_in}
-use Rattle.gb_meaning.specs.Label.{HasNoSource, Moment, early_case}
-use Rattle.gb_meaning.specs.Outline.{MayAnswer, PrintsNothing}
-use Rattle.gb_meaning.specs.Execution.{StartedExecution}
+use Rattle.gb_semantics.specs.Events.{Setting, own_files, rules_in}
+use Rattle.gb_semantics.specs.Label.{HasNoSource, Moment, early_case}
+use Rattle.gb_semantics.specs.Outline.{MayAnswer, PrintsNothing}
+use Rattle.gb_semantics.specs.Execution.{StartedExecution}
 use Rattle.gb_plan.specs.Graph.{Plan}
 use Rattle.gb_plan.specs.Task.{Path, is_output_of}
 use Rattle.gb_plan.specs.declared.task.TaskDeclaration.{TaskDeclaration as Task}

@@ -4,13 +4,13 @@ use Rattle.std.specs.Prelude.{◌≡◌, ◌⊎◌, ◌++◌, Bool, true, false,
 use Rattle.gb_action.specs.Changes.{Changes}
 use Rattle.gb_action.specs.Files.{Trees}
 use Rattle.gb_action.specs.Meanings.{Meanings}
-use Rattle.gb_action.specs.declared.output.OutputFiles.{OutputFiles}
+use Rattle.gb_action.specs.declared.output_files.OutputFiles.{OutputFiles}
 use Rattle.gb_folder.specs.Calls.{Call}
 use Rattle.gb_folder.specs.Each.{Ended, OrStops}
 use Rattle.gb_folder.specs.Files.{Files, IsFolder, are_placed, is_empty}
 use Rattle.gb_history.specs.Record.{Record}
-use Rattle.gb_meaning.specs.Headline.{Agrees}
-use Rattle.gb_meaning.specs.Kinds.{Kinds}
+use Rattle.gb_semantics.specs.Headline.{Agrees}
+use Rattle.gb_semantics.specs.Kinds.{Kinds}
 use Rattle.gb_plan.specs.Ready.{Rows}
 use Rattle.gb_plan.specs.Task.{Path, Text}
 use Rattle.gb_plan.specs.declared.task.TaskDeclaration.{TaskDeclaration as Task}

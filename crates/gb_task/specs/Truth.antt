@@ -6,18 +6,18 @@ use Rattle.sha2.specs.Sha256.{sha256}
 use Rattle.gb_action.specs.Changes.{Changes}
 use Rattle.gb_action.specs.Files.{Trees}
 use Rattle.gb_action.specs.Meanings.{Meanings}
-use Rattle.gb_action.specs.declared.output.OutputFiles.{OutputFiles}
+use Rattle.gb_action.specs.declared.output_files.OutputFiles.{OutputFiles}
 use Rattle.gb_folder.specs.Files.{Bytes, Files, is_own}
 use Rattle.gb_history.specs.Record.{IsWellFormed, Record}
 use Rattle.gb_history.specs.Text.{record_text}
 use Rattle.gb_label.specs.ReadingAnswered.{AreInputsRead}
 use Rattle.gb_label.specs.Reading.{observed_of}
-use Rattle.gb_meaning.specs.Headline.{Agrees}
-use Rattle.gb_meaning.specs.Kinds.{Kinds}
-use Rattle.gb_meaning.specs.Label.{has_one_writer}
-use Rattle.gb_meaning.specs.Made.{made_of}
-use Rattle.gb_meaning.specs.Memory.{Entry}
-use Rattle.gb_meaning.specs.TrueRecord.{AreCollisionFree, IsMade, contents_in, contents_of}
+use Rattle.gb_semantics.specs.Headline.{Agrees}
+use Rattle.gb_semantics.specs.Kinds.{Kinds}
+use Rattle.gb_semantics.specs.Label.{has_one_writer}
+use Rattle.gb_semantics.specs.Made.{made_of}
+use Rattle.gb_semantics.specs.Memory.{Entry}
+use Rattle.gb_semantics.specs.TrueRecord.{AreCollisionFree, IsMade, contents_in, contents_of}
 use Rattle.gb_plan.specs.Graph.{some_overlap}
 use Rattle.gb_plan.specs.Ready.{Rows}
 use Rattle.gb_plan.specs.Task.{output_places, given_files}

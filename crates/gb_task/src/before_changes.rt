@@ -4,21 +4,21 @@ ghost use Rattle.std.specs.List.{list_any};
 ghost use Rattle.gb_folder.specs.Calls.{OnlyReads, Requests, no_change};
 ghost use Rattle.gb_folder.specs.Files.{is_empty, is_own};
 ghost use Rattle.gb_label.specs.Deciding.{HasNamesInOrder};
-ghost use Rattle.gb_meaning.specs.Kinds.{Kinds};
-ghost use Rattle.gb_meaning.specs.Label.{Moment, some_outcome};
-ghost use Rattle.gb_meaning.specs.TrueRecord.{outside};
+ghost use Rattle.gb_semantics.specs.Kinds.{Kinds};
+ghost use Rattle.gb_semantics.specs.Label.{Moment, some_outcome};
+ghost use Rattle.gb_semantics.specs.TrueRecord.{outside};
 ghost use Rattle.gb_plan.specs.Graph.{Plan, needs_in};
 ghost use Rattle.gb_report.specs.Outcome.{is_executed};
-ghost use Rattle.gb_tree.specs.Seen.{AreAmong, AreSeen};
+ghost use Rattle.gb_tree.specs.DigestCache.{AreAmong, AreCached};
 ghost use Rattle.gb_task.specs.Case.{IsKnown};
 ghost use Rattle.gb_task.specs.Current.{WasSettled};
-ghost use Rattle.gb_task.specs.Seen.{Remembers, seen_by};
+ghost use Rattle.gb_task.specs.CacheChanges.{Remembers, cached_by};
 ghost use Rattle.gb_task.specs.Settled.{AnswersAlone, IsOfTask, SettlesExecution, ReportsAnswer};
 ghost use Rattle.gb_task.specs.Settled.{idle_outcome};
 ghost use Rattle.gb_task.specs.Settled.{settled_as, silent_report};
 ghost use Rattle.gb_task.specs.Executing.{Registering, setting_with};
 
-use crate::by_seen::prepare_by_seen;
+use crate::by_cache::prepare_by_cache;
 use crate::case_laws::{
     idle_executions_are_executions, outside_is_enough, prepared_is_case, runs_are_of_case,
 };
@@ -32,7 +32,7 @@ use gb_label::prepare::{Observed, Prepared};
 use gb_plan::task::TaskDeclaration;
 use gb_report::fault::Fault;
 use gb_report::report::{Options, Outcome, TaskReport};
-use gb_tree::seen::Seen;
+use gb_tree::digest_cache::DigestCache;
 use std::alloc::Global;
 
 /// What is decided of a started task's execution before anything is changed.
@@ -61,7 +61,7 @@ pub fn settle<F: Folder>(
     last: Option<&Record>,
     has_executed_need: bool,
     next: &[Place],
-    seen: &mut Seen,
+    seen: &mut DigestCache,
 ) -> Settled
     requires in_order { HasNamesInOrder task.now }
     requires not_own { list_any (λ output. is_own output.place) task.now.outputs ≡ false }
@@ -75,7 +75,7 @@ pub fn settle<F: Folder>(
     ensures answer { ReportsAnswer options task.now result }
     // And the decision is based on what calls returned.
     ensures answered { (since : _) → Requests F.device no_change since folder.old
-        → AreSeen F.device since folder.old seen.old
+        → AreCached F.device since folder.old seen.old
         → WasSettled F.device since folder.old folder.new options task.now
         (option_copied last.entry) result }
     ensures remembers { Remembers F.device folder.old folder.new seen.old seen.new
@@ -83,7 +83,7 @@ pub fn settle<F: Folder>(
     // If there is a report, it is that of the task's execution. Otherwise the result says which
     // case of the definition applies.
     ensures settled { F.device.faithful folder.new → (since : _)
-        → Requests F.device no_change since folder.old → AreSeen F.device since folder.old seen.old
+        → Requests F.device no_change since folder.old → AreCached F.device since folder.old seen.old
         → (kinds : Kinds) (registry_of : Registering) (plan : Plan) (moment : Moment)
         → moment.world.folder ≡ outside (F.device.contents folder.old)
         → moment.failures ≡ F.device.failures folder.old
@@ -98,21 +98,21 @@ pub fn settle<F: Folder>(
     prepared_is_case();
     idle_executions_are_executions();
     runs_are_of_case();
-    let prepared = prepare_by_seen(alloc, folder, task, options, last, next, seen);
+    let prepared = prepare_by_cache(alloc, folder, task, options, last, next, seen);
     settled_by(alloc, task, path, prepared, has_executed_need, seen)
 }
 
-/// What is decided, from the result of `prepare_by_seen`.
+/// What is decided, from the result of `prepare_by_cache`.
 fn settled_by(
     alloc: Global,
     task: &TaskDeclaration,
     path: TaskPath,
     prepared: Result<Prepared, Fault>,
     has_executed_need: bool,
-    seen: &mut Seen,
+    seen: &mut DigestCache,
 ) -> Settled
     ensures settled { result ≡ settled_as task.now path prepared has_executed_need }
-    ensures seen { AreAmong seen.new (seen_by prepared has_executed_need seen.old) }
+    ensures seen { AreAmong seen.new (cached_by prepared has_executed_need seen.old) }
 {
     match prepared {
         Ok(Prepared::Skips) => reported(alloc, task, path, Outcome::Skipped),

@@ -1,4 +1,15 @@
 //! The execution of a started task.
+//!
+//! [`execute_task`] has two phases. First `settle` (`before_changes`) reads what the decision
+//! needs, and changes nothing. It returns one of three:
+//!
+//! - a report: the task is skipped, has no actions or is up to date, or a read failed;
+//! - that the task has no source: `execute_without_source` keeps nothing of its previous execution;
+//! - that it has to run: `execute_by_changes` does so if the decision is incremental and the one
+//!   action that writes supports changes, else `execute_in_full`. Both get what was read.
+//!
+//! So a task whose inputs cannot be read fails before anything is changed. The crate's head says
+//! why a stopped execution is safe, and `specs/ByOutcome.antt` which calls each outcome makes.
 ghost use Rattle.std.specs.Prelude.{◌≡◌, ◌≤◌, ◌≢◌, ◌⊎◌, ◌||◌, ℕ, List, None, false, not, is_some, IsTrue};
 ghost use Rattle.std.specs.Prelude.{option_copied};
 ghost use Rattle.std.specs.List.{AllByRecursion};
@@ -10,9 +21,9 @@ ghost use Rattle.gb_label.specs.Looking.{lacks_source};
 ghost use Rattle.gb_label.specs.Preparing.{IsReadFor, IsObservedFor};
 ghost use Rattle.gb_label.specs.ReadingAnswered.{AreInputsAnswered};
 ghost use Rattle.gb_label.specs.Reading.{is_input_of};
-ghost use Rattle.gb_meaning.specs.Headline.{Agrees};
-ghost use Rattle.gb_meaning.specs.Kinds.{Kinds};
-ghost use Rattle.gb_meaning.specs.Label.{Moment, early_case, some_outcome};
+ghost use Rattle.gb_semantics.specs.Headline.{Agrees};
+ghost use Rattle.gb_semantics.specs.Kinds.{Kinds};
+ghost use Rattle.gb_semantics.specs.Label.{Moment, early_case, some_outcome};
 ghost use Rattle.gb_plan.specs.Graph.{Plan, needs_in, reads_output_of, some_overlap};
 ghost use Rattle.gb_plan.specs.Ready.{IsReady};
 ghost use Rattle.gb_plan.specs.Task.{is_output_of, output_places};
@@ -21,7 +32,7 @@ ghost use Rattle.gb_report.specs.Outcome.{is_executed, is_started};
 ghost use Rattle.gb_report.specs.declared.report.Options.{Options};
 ghost use Rattle.gb_report.specs.declared.report.Outcome.TheVariants.{Failed};
 ghost use Rattle.gb_run.specs.AskingChanges.{CanGoOn};
-ghost use Rattle.gb_tree.specs.Seen.{AreSeen};
+ghost use Rattle.gb_tree.specs.DigestCache.{AreCached};
 ghost use Rattle.gb_task.specs.Buildable.{IsBuildable};
 ghost use Rattle.gb_task.specs.Case.{IsCaseFor, IsKnown};
 ghost use Rattle.gb_task.specs.Executions.{IsRunFor, is_by_changes};
@@ -32,8 +43,8 @@ ghost use Rattle.gb_task.specs.Executing.{BeginsAt, HasExecuted, IsReportedOf, R
 ghost use Rattle.gb_task.specs.Executing.{is_of_execution, outcome_of, setting_with};
 
 use crate::before_changes::{Settled, settle};
-use crate::changes::execute_by_changes;
 use crate::full::execute_in_full;
+use crate::incremental::execute_by_changes;
 use crate::sourceless::execute_without_source;
 use gb_action::actions::Actions;
 use gb_action::table::ActionTable;
@@ -47,7 +58,7 @@ use gb_plan::task::TaskDeclaration;
 use gb_report::fault::Fault;
 use gb_report::report::{Options, TaskReport};
 use gb_run::calling_changes::has_one_writer;
-use gb_tree::seen::Seen;
+use gb_tree::digest_cache::DigestCache;
 use std::alloc::Global;
 
 /// Executes a started task. `last` is the record that was read of it, and `has_executed_need` says
@@ -65,7 +76,7 @@ pub fn execute_task<A: Actions, F: Folder>(
     last: Option<&Record>,
     has_executed_need: bool,
     next: &[Place],
-    seen: &mut Seen,
+    seen: &mut DigestCache,
 ) -> TaskReport
     requires buildable { IsBuildable A.meanings table.now task.now }
     requires separate { reads_output_of task.now task.now ≡ false }
@@ -73,17 +84,18 @@ pub fn execute_task<A: Actions, F: Folder>(
     requires path { path ≡ task.now.path }
     ensures path { result.path ≡ task.now.path }
     ensures has_actions { result.has_actions ≡ not (is_empty task.now.actions) }
-    // Over any folder: which calls were made, stage by stage, up to the first that failed; with which
-    // bytes; and what they were based on. A task that is skipped or up to date requests no change, and
-    // it is up to date only if it was found so on what calls returned since the last change.
+    // Over any folder: which calls were made, stage by stage, up to the first that failed; with
+    // which bytes; and what they were based on. A task that is skipped or up to date requests no
+    // change, and it is up to date only if it was found so on what calls returned since the last
+    // change.
     ensures requests { (since : _) → Requests F.device no_change since folder.old
-        → AreSeen F.device since folder.old seen.old
+        → AreCached F.device since folder.old seen.old
         → ExecutionRequests F.device A.meanings table.now options task.now
         (option_copied last.entry) result.outcome result.lines since folder.old folder.new }
     // What is remembered was read since the last change.
     ensures seen { (since : _) → Requests F.device no_change since folder.old
-        → AreSeen F.device since folder.old seen.old
-        → AreSeen F.device (since_after result.outcome since folder.new) folder.new
+        → AreCached F.device since folder.old seen.old
+        → AreCached F.device (since_after result.outcome since folder.new) folder.new
         seen.new }
     ensures blame { (place : List ℕ) → result.outcome ≡ Failed (Fault.Device place)
         → HasRisen (F.device.failures folder.old) (F.device.failures folder.new) }
@@ -91,16 +103,18 @@ pub fn execute_task<A: Actions, F: Folder>(
         → IsTrue (is_input_of task.now place || is_output_of task.now place) }
     ensures started { IsTrue (is_started result.outcome) }
     // Over any folder: a task that is skipped or has no actions is reported as such. A task that
-    // runs and has actions is up to date only with outputs, no false `upToDateWhen` and no requested
-    // rerun, and without source only if a property skips it. Only `Executed` and `Failed` have lines.
+    // runs and has actions is up to date only with outputs, no false `upToDateWhen` and no
+    // requested rerun, and without source only if a property skips it. Only `Executed` and `Failed`
+    // have lines.
     ensures alone { IsAnsweredAlone task.now.runs (is_empty task.now.actions) has_executed_need
         result.outcome }
     ensures answer { IsAnswer options task.now result }
-    // Where contents are known and kinds agree: if what was read is the record of what is
-    // remembered, or none where nothing is, and that is true and collision-free with what the task
-    // has now (`IsKnown`), this is its execution by the definitions.
+    // Where contents are known and kinds agree: suppose that `last` is the record of the run that
+    // the definitions remember (none if they remember none), that this run is true, and that no two
+    // contents of it and of what the task has now share a digest (`IsKnown`). Then this is the
+    // task's execution by the definitions.
     ensures execution { F.device.faithful folder.new → (since : _)
-        → Requests F.device no_change since folder.old → AreSeen F.device since folder.old seen.old
+        → Requests F.device no_change since folder.old → AreCached F.device since folder.old seen.old
         → (kinds : Kinds) (registry_of : Registering) (plan : Plan) (moment : Moment)
         → IsAssumed A.meanings table.now kinds (F.device.may_leave folder.old)
         → BeginsAt task.now (is_some (option_copied last.entry)) (F.device.contents folder.old)
@@ -155,8 +169,8 @@ fn run<A: Actions, F: Folder>(
     ensures requests { Requests F.device (changes_at (is_of_execution task.now)) folder.old folder.new }
     ensures has_actions { result.has_actions ≡ not (is_empty task.now.actions) }
     ensures outcome { IsReportedOf outcome_of result.outcome }
-    // Over any folder: where calls returned what it was decided on since a state of the folder, without
-    // a change, it only read and failed, or it ran on just that.
+    // Over any folder: if calls returned what the decision rests on, from some state on and without
+    // a requested change since, then the task only read and failed, or it ran on exactly that.
     ensures ran { (first : _) → Requests F.device no_change first folder.old
         → AreInputsAnswered F.device first folder.old task.now observed.inputs.items
         → WasDecided F.device first folder.old options task.now

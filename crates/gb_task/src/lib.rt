@@ -9,7 +9,7 @@
 //! the files at the outputs, and keeps those that are right, also where it fails.
 //!
 //! A file that an earlier task made is an output there and an input here. So the digests of the
-//! outputs of tasks that are up to date are remembered (`Seen` of `gb_tree`) until the build asks
+//! outputs of tasks that are up to date are remembered (`DigestCache` of `gb_tree`) until the build asks
 //! for a change, and a task is first decided by these: if it is up to date by them, no remembered
 //! file is read again. In any other case all is read, as above.
 //!
@@ -45,13 +45,13 @@
 
 mod adding;
 mod before_changes;
-mod by_changes;
-mod by_seen;
+mod by_cache;
 pub mod case_laws;
-mod changes;
 mod clearing;
 pub mod execution;
 mod full;
+mod incremental;
+mod incremental_run;
 mod keeping;
 pub mod laws;
 mod recheck;

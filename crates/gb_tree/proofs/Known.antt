@@ -10,7 +10,7 @@ use Rattle.gb_folder.specs.Limits.{max_file}
 use Rattle.gb_folder.proofs.Known.{read_there}
 use Rattle.gb_tree.specs.Answered.{WasObserved}
 use Rattle.gb_tree.specs.Reading.{IsObservedIn, KeepsOnly}
-use Rattle.gb_tree.specs.Seen.{AreSeen, AreSeenIn, SeenFile}
+use Rattle.gb_tree.specs.DigestCache.{AreCached, AreCachedIn, CachedFile}
 use Rattle.gb_tree.specs.Tree.{bytes_at, is_large}
 use Rattle.gb_tree.specs.declared.kept.ScannedFile.{ScannedFile}
 
@@ -50,7 +50,7 @@ module _ {F : Type 0} {device : Device F} {old new : F} (reads : OnlyReads devic
   }
 
 -- what was seen since a state, without a change, is what known contents have
-pub seen_known : {F : Type 0} (device : Device F) (since now : F) → device.faithful now → (seen : List SeenFile) → AreSeen device since now seen → AreSeenIn (device.contents now).files seen
+pub seen_known : {F : Type 0} (device : Device F) (since now : F) → device.faithful now → (seen : List CachedFile) → AreCached device since now seen → AreCachedIn (device.contents now).files seen
 seen_known device since now known [] were = tt
 seen_known device since now known (file ∷ seen) were = (
   record {

@@ -11,4 +11,4 @@ pub mod Reading
 pub mod Answered
 pub mod Waiting
 pub mod Sieve
-pub mod Seen
+pub mod DigestCache

@@ -3,13 +3,13 @@
 ghost use Rattle.std.specs.Prelude.{◌≡◌, ◌++◌, IfOk, IfSome};
 ghost use Rattle.gb_folder.specs.Calls.{OnlyReads, Requests, no_change};
 ghost use Rattle.gb_tree.specs.Answered.{WasObserved, WereObserved};
-ghost use Rattle.gb_tree.specs.Seen.{AreSeen};
+ghost use Rattle.gb_tree.specs.DigestCache.{AreCached};
 ghost use Rattle.gb_tree.specs.Waiting.{file_in, waiting_files};
 
+use crate::digest_cache::DigestCache;
 use crate::kept::ScannedFile;
 use crate::reading::listed;
 use crate::scanning::scan_file;
-use crate::seen::Seen;
 use crate::waiting::{Found, Waiting, add, digest_waiting};
 use gb_core::place::{Place, RelPath};
 use gb_folder::folder::Folder;
@@ -21,11 +21,11 @@ const FEW: usize = 16;
 /// Lists these roots, reads the files there, and remembers their digests. A root with more than 16
 /// files is passed over, and so is what cannot be listed or read. Where memory lacks, nothing more
 /// is remembered. If the files of all roots are not in their order, some may not be found later.
-pub fn read_ahead<F: Folder>(alloc: Global, folder: &mut F, roots: &[Place], seen: &mut Seen)
+pub fn read_ahead<F: Folder>(alloc: Global, folder: &mut F, roots: &[Place], seen: &mut DigestCache)
     ensures reads { OnlyReads F.device folder.old folder.new }
     ensures seen { (since : _) → Requests F.device no_change since folder.old
-        → AreSeen F.device since folder.old seen.old
-        → AreSeen F.device since folder.new seen.new }
+        → AreCached F.device since folder.old seen.old
+        → AreCached F.device since folder.new seen.new }
 {
     if roots.is_empty() {
         return;

@@ -17,10 +17,10 @@ ghost use Rattle.gb_tree.specs.Rising.{IsFrom, IsRising};
 ghost use Rattle.gb_tree.specs.Answered.{AreEntriesListed, IsStartListed, listed_in};
 
 use crate::fault::TreeFault;
-use crate::path::{path_of, relative_to};
 use crate::pattern::Pattern;
 use crate::property::Naming;
 use crate::reading::listed;
+use crate::relative::{path_of, relative_to};
 use crate::sieve::Sieve;
 use crate::starts::{distinct, starts_at};
 use gb_core::name::Name;

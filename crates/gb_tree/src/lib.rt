@@ -13,9 +13,9 @@
 //! files once, take their digests, and keep the bytes where there is room for them. From such a
 //! [`Reading`](kept::Reading) a run gets the contents by [`completed`](kept::Reading::completed),
 //! with the digests of these very contents.
-//! [`Seen`](seen::Seen) remembers the digests of readings, and neither of the two reads a file whose
-//! digest it remembers. [`read_ahead`](ahead::read_ahead) reads files for that before it is their
-//! turn.
+//! [`DigestCache`](digest_cache::DigestCache) keeps the digests of readings, and neither of the two
+//! reads a file whose digest it has. [`read_ahead`](ahead::read_ahead) reads files for that before it
+//! is their turn.
 //!
 //! The digests of such files are remembered: [`prints`](digest::prints) takes them from contents,
 //! [`prints_of`](property::prints_of) and [`output_prints`](output::output_prints) from the folder,
@@ -44,18 +44,18 @@ pub mod ahead;
 pub mod changes;
 mod completing;
 pub mod digest;
+pub mod digest_cache;
 mod entries;
 pub mod fault;
 pub mod kept;
 mod matching;
 pub mod output;
-pub mod path;
 pub mod pattern;
 pub mod prints;
 pub mod property;
 mod reading;
+pub mod relative;
 mod scanning;
-pub mod seen;
 mod shortcut;
 mod sieve;
 mod starts;

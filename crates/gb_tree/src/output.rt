@@ -12,15 +12,15 @@ ghost use Rattle.gb_tree.specs.Tree.{output_entries, output_faults, output_listi
 ghost use Rattle.gb_tree.specs.Prints.{digests_of};
 ghost use Rattle.gb_tree.specs.Answered.{AreOutputEntriesListed, WereObserved};
 ghost use Rattle.gb_tree.specs.Reading.{AreObserved, digests_observed, entries_observed};
-ghost use Rattle.gb_tree.specs.Seen.{AreSeen, AreSeenIn};
+ghost use Rattle.gb_tree.specs.DigestCache.{AreCached, AreCachedIn};
 
+use crate::digest_cache::DigestCache;
 use crate::fault::{TreeFault, is_gone};
 use crate::kept::Reading;
-use crate::path::path_from;
 use crate::prints::Prints;
 use crate::reading::{digest_all, listed, read_all};
+use crate::relative::path_from;
 use crate::scanning::scan_all;
-use crate::seen::Seen;
 use gb_action::snapshot::Snapshot;
 use gb_core::name::Name;
 use gb_core::place::{Place, RelPath};
@@ -92,7 +92,7 @@ pub fn output_reading<F: Folder>(
     folder: &mut F,
     name: &Name,
     place: &Place,
-    seen: &Seen,
+    seen: &DigestCache,
     room: &mut u64,
 ) -> Result<Reading, TreeFault>
     ensures reads { OnlyReads F.device folder.old folder.new }
@@ -107,20 +107,21 @@ pub fn output_reading<F: Folder>(
     ensures listed { IfOk result (λ reading. AreOutputEntriesListed F.device
         folder.old folder.new place.now (entries_observed reading.1)) }
     ensures answered { (first : _) → Requests F.device no_change first folder.old
-        → AreSeen F.device first folder.old seen.now
+        → AreCached F.device first folder.old seen.now
         → IfOk result
         (λ reading. WereObserved F.device first folder.new reading.1) }
     // Where contents are known and the seen digests are those of the files there:
-    ensures digests { F.device.faithful folder.new → AreSeenIn (F.device.contents folder.old).files seen.now
+    ensures digests { F.device.faithful folder.new → AreCachedIn (F.device.contents folder.old).files seen.now
         → IfOk result (λ reading.
         digests_observed reading.1 ≡ digests_of (files_from (F.device.contents folder.old).files place.now)) }
-    ensures observed { F.device.faithful folder.new → AreSeenIn (F.device.contents folder.old).files seen.now
+    ensures observed { F.device.faithful folder.new
+        → AreCachedIn (F.device.contents folder.old).files seen.now
         → IfOk result (λ reading. AreObserved (F.device.contents folder.old).files
         (output_entries (F.device.contents folder.old).files place.now) reading.1) }
-    ensures fit { F.device.faithful folder.new → AreSeenIn (F.device.contents folder.old).files seen.now
+    ensures fit { F.device.faithful folder.new → AreCachedIn (F.device.contents folder.old).files seen.now
         → OnOk result
         (output_faults name.now place.now (F.device.contents folder.old) ≡ []) }
-    ensures err { F.device.faithful folder.new → AreSeenIn (F.device.contents folder.old).files seen.now
+    ensures err { F.device.faithful folder.new → AreCachedIn (F.device.contents folder.old).files seen.now
         → IfErr result (λ fault.
         IsRefused (F.device.failures folder.old) (F.device.failures folder.new)
         (output_faults name.now place.now (F.device.contents folder.old)) fault) }
@@ -141,7 +142,7 @@ fn read_output_once<F: Folder>(
     folder: &mut F,
     name: &Name,
     place: &Place,
-    seen: &Seen,
+    seen: &DigestCache,
     room: &mut u64,
 ) -> Result<Reading, TreeFault>
     ensures reads { OnlyReads F.device folder.old folder.new }
@@ -156,20 +157,21 @@ fn read_output_once<F: Folder>(
     ensures listed { IfOk result (λ reading. AreOutputEntriesListed F.device
         folder.old folder.new place.now (entries_observed reading.1)) }
     ensures answered { (first : _) → Requests F.device no_change first folder.old
-        → AreSeen F.device first folder.old seen.now
+        → AreCached F.device first folder.old seen.now
         → IfOk result
         (λ reading. WereObserved F.device first folder.new reading.1) }
     // Where contents are known and the seen digests are those of the files there:
-    ensures digests { F.device.faithful folder.new → AreSeenIn (F.device.contents folder.old).files seen.now
+    ensures digests { F.device.faithful folder.new → AreCachedIn (F.device.contents folder.old).files seen.now
         → IfOk result (λ reading.
         digests_observed reading.1 ≡ digests_of (files_from (F.device.contents folder.old).files place.now)) }
-    ensures observed { F.device.faithful folder.new → AreSeenIn (F.device.contents folder.old).files seen.now
+    ensures observed { F.device.faithful folder.new
+        → AreCachedIn (F.device.contents folder.old).files seen.now
         → IfOk result (λ reading. AreObserved (F.device.contents folder.old).files
         (output_entries (F.device.contents folder.old).files place.now) reading.1) }
-    ensures fit { F.device.faithful folder.new → AreSeenIn (F.device.contents folder.old).files seen.now
+    ensures fit { F.device.faithful folder.new → AreCachedIn (F.device.contents folder.old).files seen.now
         → OnOk result
         (output_faults name.now place.now (F.device.contents folder.old) ≡ []) }
-    ensures err { F.device.faithful folder.new → AreSeenIn (F.device.contents folder.old).files seen.now
+    ensures err { F.device.faithful folder.new → AreCachedIn (F.device.contents folder.old).files seen.now
         → IfErr result (λ fault.
         IsRefused (F.device.failures folder.old) (F.device.failures folder.new)
         (output_faults name.now place.now (F.device.contents folder.old)) fault) }

@@ -7,8 +7,9 @@ ghost use Rattle.gb_tree.specs.Prints.{digests_of};
 ghost use Rattle.gb_tree.specs.Property.{entries_of, is_under_any, tree_faults, tree_of};
 ghost use Rattle.gb_tree.specs.Answered.{AreEntriesListed, WereObserved};
 ghost use Rattle.gb_tree.specs.Reading.{AreObserved, digests_observed, entries_observed};
-ghost use Rattle.gb_tree.specs.Seen.{AreSeen, AreSeenIn};
+ghost use Rattle.gb_tree.specs.DigestCache.{AreCached, AreCachedIn};
 
+use crate::digest_cache::DigestCache;
 use crate::entries::entries_of;
 use crate::fault::{TreeFault, is_gone};
 use crate::kept::Reading;
@@ -16,7 +17,6 @@ use crate::pattern::Pattern;
 use crate::prints::Prints;
 use crate::reading::{digest_all, read_all};
 use crate::scanning::scan_all;
-use crate::seen::Seen;
 use gb_action::snapshot::Snapshot;
 use gb_core::name::Name;
 use gb_core::place::Place;
@@ -115,7 +115,7 @@ pub fn reading_of<F: Folder>(
     roots: &[Place],
     include: &[Pattern],
     exclude: &[Pattern],
-    seen: &Seen,
+    seen: &DigestCache,
     room: &mut u64,
 ) -> Result<Reading, TreeFault>
     ensures reads { OnlyReads F.device folder.old folder.new }
@@ -131,22 +131,23 @@ pub fn reading_of<F: Folder>(
         roots.now
         include.now exclude.now folder.old folder.new (entries_observed reading.1)) }
     ensures answered { (first : _) → Requests F.device no_change first folder.old
-        → AreSeen F.device first folder.old seen.now
+        → AreCached F.device first folder.old seen.now
         → IfOk result
         (λ reading. WereObserved F.device first folder.new reading.1) }
     // Where contents are known and the seen digests are those of the files there:
-    ensures digests { F.device.faithful folder.new → AreSeenIn (F.device.contents folder.old).files seen.now
+    ensures digests { F.device.faithful folder.new → AreCachedIn (F.device.contents folder.old).files seen.now
         → IfOk result (λ reading. digests_observed reading.1
         ≡ digests_of (tree_of naming roots.now include.now exclude.now
         (F.device.contents folder.old).files)) }
-    ensures observed { F.device.faithful folder.new → AreSeenIn (F.device.contents folder.old).files seen.now
+    ensures observed { F.device.faithful folder.new
+        → AreCachedIn (F.device.contents folder.old).files seen.now
         → IfOk result (λ reading. AreObserved (F.device.contents folder.old).files
         (entries_of naming roots.now include.now exclude.now (F.device.contents folder.old).files)
         reading.1) }
-    ensures fit { F.device.faithful folder.new → AreSeenIn (F.device.contents folder.old).files seen.now
+    ensures fit { F.device.faithful folder.new → AreCachedIn (F.device.contents folder.old).files seen.now
         → OnOk result
         (tree_faults name.now naming roots.now include.now exclude.now (F.device.contents folder.old) ≡ []) }
-    ensures err { F.device.faithful folder.new → AreSeenIn (F.device.contents folder.old).files seen.now
+    ensures err { F.device.faithful folder.new → AreCachedIn (F.device.contents folder.old).files seen.now
         → IfErr result (λ fault.
         IsRefused (F.device.failures folder.old) (F.device.failures folder.new)
         (tree_faults name.now naming roots.now include.now exclude.now (F.device.contents folder.old))
@@ -175,7 +176,7 @@ fn read_once<F: Folder>(
     roots: &[Place],
     include: &[Pattern],
     exclude: &[Pattern],
-    seen: &Seen,
+    seen: &DigestCache,
     room: &mut u64,
 ) -> Result<Reading, TreeFault>
     ensures reads { OnlyReads F.device folder.old folder.new }
@@ -191,22 +192,23 @@ fn read_once<F: Folder>(
         roots.now
         include.now exclude.now folder.old folder.new (entries_observed reading.1)) }
     ensures answered { (first : _) → Requests F.device no_change first folder.old
-        → AreSeen F.device first folder.old seen.now
+        → AreCached F.device first folder.old seen.now
         → IfOk result
         (λ reading. WereObserved F.device first folder.new reading.1) }
     // Where contents are known and the seen digests are those of the files there:
-    ensures digests { F.device.faithful folder.new → AreSeenIn (F.device.contents folder.old).files seen.now
+    ensures digests { F.device.faithful folder.new → AreCachedIn (F.device.contents folder.old).files seen.now
         → IfOk result (λ reading. digests_observed reading.1
         ≡ digests_of (tree_of naming roots.now include.now exclude.now
         (F.device.contents folder.old).files)) }
-    ensures observed { F.device.faithful folder.new → AreSeenIn (F.device.contents folder.old).files seen.now
+    ensures observed { F.device.faithful folder.new
+        → AreCachedIn (F.device.contents folder.old).files seen.now
         → IfOk result (λ reading. AreObserved (F.device.contents folder.old).files
         (entries_of naming roots.now include.now exclude.now (F.device.contents folder.old).files)
         reading.1) }
-    ensures fit { F.device.faithful folder.new → AreSeenIn (F.device.contents folder.old).files seen.now
+    ensures fit { F.device.faithful folder.new → AreCachedIn (F.device.contents folder.old).files seen.now
         → OnOk result
         (tree_faults name.now naming roots.now include.now exclude.now (F.device.contents folder.old) ≡ []) }
-    ensures err { F.device.faithful folder.new → AreSeenIn (F.device.contents folder.old).files seen.now
+    ensures err { F.device.faithful folder.new → AreCachedIn (F.device.contents folder.old).files seen.now
         → IfErr result (λ fault.
         IsRefused (F.device.failures folder.old) (F.device.failures folder.new)
         (tree_faults name.now naming roots.now include.now exclude.now (F.device.contents folder.old))

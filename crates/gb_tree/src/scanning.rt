@@ -13,14 +13,14 @@ ghost use Rattle.gb_tree.specs.Tree.{Blames, IsRefused, is_among, is_large};
 ghost use Rattle.gb_tree.specs.Tree.{too_large};
 ghost use Rattle.gb_tree.specs.Answered.{IsTreeFaultBetween, WasObserved, WereObserved};
 ghost use Rattle.gb_tree.specs.Reading.{IsReading, IsObservedIn, KeepsOnly, entries_observed, is_digest_of};
-ghost use Rattle.gb_tree.specs.Seen.{AreSeen, AreSeenIn};
+ghost use Rattle.gb_tree.specs.DigestCache.{AreCached, AreCachedIn};
 ghost use Rattle.gb_tree.specs.Waiting.{digest_in, file_in, kept_in};
 ghost use Rattle.sha2.specs.Sha256.{sha256};
 
+use crate::digest_cache::DigestCache;
 use crate::fault::TreeFault;
 use crate::kept::ScannedFile;
 use crate::reading::read_file;
-use crate::seen::Seen;
 use crate::waiting::{Found, SmallFile, Waiting, add, digest_waiting};
 use gb_core::bytes::Bytes;
 use gb_core::place::{Place, RelPath};
@@ -152,7 +152,7 @@ fn find_file<F: Folder>(
     folder: &mut F,
     path: &RelPath,
     place: &Place,
-    seen: &Seen,
+    seen: &DigestCache,
     room: &mut u64,
 ) -> Result<Found, TreeFault>
     ensures reads { OnlyReads F.device folder.old folder.new }
@@ -163,10 +163,11 @@ fn find_file<F: Folder>(
     ensures digested { IfOk result
         (λ found. IsTrue (is_digest_of (file_in found).kept (file_in found).digest)) }
     ensures answered { (first : _) → Requests F.device no_change first folder.old
-        → AreSeen F.device first folder.old seen.now
+        → AreCached F.device first folder.old seen.now
         → IfOk result
         (λ found. WasObserved F.device first folder.new (file_in found)) }
-    ensures observed { F.device.faithful folder.new → AreSeenIn (F.device.contents folder.old).files seen.now
+    ensures observed { F.device.faithful folder.new
+        → AreCachedIn (F.device.contents folder.old).files seen.now
         → IfOk result
         (λ found. IsObservedIn (F.device.contents folder.old).files (file_in found)) }
     ensures err { F.device.faithful folder.new
@@ -187,7 +188,7 @@ pub(crate) fn scan_all<F: Folder>(
     alloc: Global,
     folder: &mut F,
     entries: &[(RelPath, Place)],
-    seen: &Seen,
+    seen: &DigestCache,
     room: &mut u64,
 ) -> Result<Vec<ScannedFile>, TreeFault>
     requires { IsTrue (is_sorted byte_order entries.now) }
@@ -197,16 +198,17 @@ pub(crate) fn scan_all<F: Folder>(
     ensures placed { IfOk result (λ observed. entries_observed observed.items ≡ entries.now) }
     ensures reading { IfOk result (λ observed. IsReading observed.items) }
     ensures answered { (first : _) → Requests F.device no_change first folder.old
-        → AreSeen F.device first folder.old seen.now
+        → AreCached F.device first folder.old seen.now
         → IfOk result
         (λ observed. WereObserved F.device first folder.new observed.items) }
-    ensures observed { F.device.faithful folder.new → AreSeenIn (F.device.contents folder.old).files seen.now
+    ensures observed { F.device.faithful folder.new
+        → AreCachedIn (F.device.contents folder.old).files seen.now
         → IfOk result
         (λ observed. AllByRecursion (IsObservedIn (F.device.contents folder.old).files) observed.items) }
-    ensures small { F.device.faithful folder.new → AreSeenIn (F.device.contents folder.old).files seen.now
+    ensures small { F.device.faithful folder.new → AreCachedIn (F.device.contents folder.old).files seen.now
         → OnOk result
         (too_large (F.device.contents folder.old).files entries.now ≡ []) }
-    ensures err { F.device.faithful folder.new → AreSeenIn (F.device.contents folder.old).files seen.now
+    ensures err { F.device.faithful folder.new → AreCachedIn (F.device.contents folder.old).files seen.now
         → AllByRecursion (λ entry. IsSome (file_at (F.device.contents folder.old).files entry.1)) entries.now
         → IfErr result (λ fault.
         IsRefused (F.device.failures folder.old) (F.device.failures folder.new)

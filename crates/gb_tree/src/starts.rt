@@ -8,8 +8,8 @@ ghost use Rattle.gb_tree.specs.Property.{distinct, outermost, start_of, starts_i
 ghost use Rattle.gb_tree.specs.Starts.{HoldsPlaces};
 
 use crate::fault::TreeFault;
-use crate::path::last_segment;
 use crate::pattern::Pattern;
+use crate::relative::last_segment;
 use crate::shortcut::has_wild;
 use gb_core::place::{Place, PlaceFault};
 use std::alloc::{AllocError, Global};

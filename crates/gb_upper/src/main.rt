@@ -4,6 +4,12 @@
 //!
 //! An example of `docs/EMBEDDING.md`. Proved: that each kind makes what its definition says, that
 //! the program never panics, and that it ends if its system calls end.
+//!
+//! Two kinds are a `FileKind` and the third a `TryFileKind` of `gb_with`. The program joins their
+//! tables with that of the built-in kinds, and `here::build_here` of `gb_here` does the rest.
+//!
+//! Out of scope: kinds that work on all files at once (`gb_pages` has some), and functions of
+//! values of its own.
 #![tactic(auto)]
 
 mod headed;
@@ -16,7 +22,7 @@ use crate::whole_lines::WholeLines;
 use gb_action::actions::Actions;
 use gb_action::table::{ActionTable, TableFault};
 use gb_answer::{builtin_actions, builtin_functions};
-use gb_command::run::UNPRINTED;
+use gb_cli::program::UNPRINTED;
 use gb_here::here::build_here;
 use gb_kinds::builtin::{Builtin, StoredAction};
 use gb_with::beside::{beside, only};

@@ -9,12 +9,12 @@ use Rattle.gb_action.specs.Meanings.{Making, Printing}
 use Rattle.gb_action.specs.Outputs.{written_at, exists_at, is_removed, names_only}
 use Rattle.gb_action.specs.Replies.{Answers, CarriesOver, FollowsOn, made_for}
 use Rattle.gb_action.specs.Shapes.{target}
-use Rattle.gb_action.specs.declared.output.OutputFiles.{OutputFiles}
+use Rattle.gb_action.specs.declared.output_files.OutputFiles.{OutputFiles}
 use Rattle.gb_action.specs.declared.reply.OutputPath.{OutputPath}
 use Rattle.gb_action.specs.declared.reply.Reply.{Reply}
 use Rattle.gb_action.specs.declared.reply.Written.{Written}
 use Rattle.gb_action.specs.declared.request.Request.{Request}
-use Rattle.gb_with.specs.Anew.{IsRecheck, made_no_more, unless_made}
+use Rattle.gb_with.specs.Remaking.{IsRecheck, made_no_more, unless_made}
 use Rattle.gb_kinds.specs.Own.{are_own}
 use Rattle.gb_kinds.specs.Remade.{as_made, renewed, existing}
 use Rattle.gb_core.proofs.Found.{find-same, find-other}
@@ -145,8 +145,8 @@ module _ (makes : Making) (prints : Printing) (files : Tree) (lines : List (List
       by true e = (anew.by_changes e).prints
       by false e = ap (λ r. r.lines) (anew.in_full e)
 
-  pub anew-answers : list_any (λ (output : OutputFiles). bytes_eq output.name target) request.outputs ≡ true → Answers makes prints request (Ok reply)
-  anew-answers declared = record {
+  pub remaking-answers : list_any (λ (output : OutputFiles). bytes_eq output.name target) request.outputs ≡ true → Answers makes prints request (Ok reply)
+  remaking-answers declared = record {
     succeeds = λ r e. ap is_ok made;
     removes_nothing = λ r e full. ap (λ x. x.removes) (sym (same_ok e) ∙ anew.in_full full);
     in_full = λ r e full. made ∙ ap Ok (ap (λ x. x.writes) (sym (anew.in_full full) ∙ same_ok e));

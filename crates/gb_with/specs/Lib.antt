@@ -6,4 +6,4 @@ pub mod Functions
 pub mod TreeKinds
 pub mod Renamed
 pub mod TryKinds
-pub mod Anew
+pub mod Remaking

@@ -11,7 +11,9 @@ use crate::stored::{Call, OwnAction};
 use gb_action::table::{ActionTable, TableFault};
 use std::alloc::Global;
 
-/// The table with one own kind only, in this version.
+/// A table with one entry: the kind `C` under this name, in this version of it. A version is at
+/// least 1, and rises when the kind starts to make something else of the same input: then no old
+/// record counts. The only error is a lack of memory (3).
 pub fn only<C: Call>(
     alloc: Global,
     name: &str,
@@ -28,7 +30,8 @@ pub fn only<C: Call>(
 }
 
 /// The actions of two tables in one, with one namespace. If each table has each name once, the
-/// tables are refused (41) exactly if a name occurs in both, unless memory runs out.
+/// tables are refused (41) exactly if a name occurs in both, unless memory runs out (3). The
+/// entries of the first come first. Both tables are consumed, also by an error.
 pub fn beside<A: Drop, B: Drop>(
     alloc: Global,
     first: ActionTable<A>,

@@ -19,16 +19,21 @@
 //!
 //! `ByFile` and `TryByFile` print a line for each change, `OfTrees` prints none. Asked for changes,
 //! `TryByFile` and `OfTrees` make all files, write those that differ, and remove those
-//! that are made no more (`IsRecheck`).
+//! that are no longer made (`IsRecheck`).
+//!
+//! Set aside: a `FileKind` that may fail, since a reply to changes would not be right if a file
+//! that did not change failed; an incremental `Renaming`, since whether two files have one path
+//! depends on all of them; and a ghost field in a stored action in place of its model with an
+//! invariant, since a ghost field of a struct that owns memory cannot cite a bound.
 #![tactic(auto)]
 
-mod anew;
 pub mod beside;
 pub mod both;
 pub mod by_file;
 pub mod file_kind;
 mod functions;
 pub mod of_trees;
+mod remaking;
 pub mod renamed;
 mod stored;
 pub mod tree_kind;

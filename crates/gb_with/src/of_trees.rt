@@ -7,7 +7,7 @@ ghost use Rattle.gb_kinds.specs.Builtin.{of_files};
 ghost use Rattle.gb_with.specs.TreeKinds.{of_checks, nothing, makes_of_trees, makes_nothing, prints_nothing};
 ghost use Rattle.gb_with.specs.TreeKinds.{of_trees-own, nothing_made-own};
 
-use crate::anew::reply_recheck;
+use crate::remaking::reply_recheck;
 use crate::stored::{Call, OwnAction};
 use crate::tree_kind::{CheckKind, TreeKind};
 use gb_action::actions::Actions;

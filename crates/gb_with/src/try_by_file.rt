@@ -10,7 +10,7 @@ ghost use Rattle.gb_kinds.specs.ByFile.{change_line};
 ghost use Rattle.gb_with.specs.TreeKinds.{IsFailure, makes_of_trees, of_trees-own};
 ghost use Rattle.gb_with.specs.TryKinds.{at_path, all_tried, tried_tree};
 
-use crate::anew::reply_recheck;
+use crate::remaking::reply_recheck;
 use crate::stored::{Call, OwnAction};
 use crate::tree_kind::files_of;
 use crate::try_file_kind::TryFileKind;

@@ -1,7 +1,7 @@
 //! A custom listener: it counts the tasks that were executed, and keeps all its notifications.
 ghost use Rattle.std.specs.Prelude.{◌≡◌, ◌∷◌, [], OnErr, OnOk};
 ghost use Rattle.gb_exec.specs.Notifying.{Refuses};
-ghost use Rattle.gb_meaning.specs.Headline.{HearsAll};
+ghost use Rattle.gb_semantics.specs.Headline.{HearsAll};
 ghost use Rattle.gb_report.specs.declared.report.Heard.TheVariants.{Start, End};
 
 use gb_core::path::TaskPath;

@@ -3,6 +3,7 @@ use crate::building::{is_reported, put_bytes, words_of};
 use crate::site::counting::Counting;
 use gb_action::actions::Actions;
 use gb_answer::answer::answer_text;
+use gb_arguments::arguments::read;
 use gb_build::invoking::invoke;
 use gb_core::place::Place;
 use gb_folder::folder::Folder;
@@ -12,7 +13,6 @@ use gb_provider::transforms::Transforms;
 use gb_registry::tables::Tables;
 use gb_report::fault::Fault;
 use gb_report::report::Report;
-use gb_words::words::read;
 use std::alloc::Global;
 use std::test::Fail;
 

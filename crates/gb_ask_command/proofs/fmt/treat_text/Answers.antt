@@ -6,7 +6,7 @@ use Rattle.std.proofs.lemmas.Result.{err_from_is_err_and}
 use Rattle.gb_report.specs.declared.fault.Fault.{Fault}
 use Rattle.gb_folder.proofs.Machine.{at_err}
 use Rattle.gb_ask_command.specs.Fmt.{string_in}
-use Rattle.gb_ask_command.specs.declared.words.Mode.{Mode}
+use Rattle.gb_ask_command.specs.declared.arguments.Mode.{Mode}
 use Rattle.gb_ask_command.proofs.Treating.{Shown, TextDone, text_done, text_fails}
 use Rattle.gb_ask_command.proofs.fmt.treat_text.Goals as goal
 

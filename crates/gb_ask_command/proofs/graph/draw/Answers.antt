@@ -2,7 +2,7 @@ use Rattle.std.proofs.Common.{subst}
 use Rattle.std.specs.Prelude.{IfErr, IfOk, string_bytes}
 use Rattle.gb_declare.specs.Registered.{registry_said}
 use Rattle.gb_graph.specs.Answer.{IsRefusalOf}
-use Rattle.gb_meaning.specs.Edits.{Shown}
+use Rattle.gb_semantics.specs.Edits.{Shown}
 use Rattle.gb_registry.specs.Tables.{tables_of}
 use Rattle.gb_registry.specs.declared.tables.Tables as handed
 use Rattle.gb_ask_command.specs.Graph.{IsDrawing}

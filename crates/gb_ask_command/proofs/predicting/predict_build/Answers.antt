@@ -2,7 +2,7 @@ use Rattle.std.proofs.Common.{◌∙◌, IfErr, IfOk, inl, inr, refl, sym, subst
 use Rattle.std.proofs.lemmas.Result.{err_from_is_err_and}
 use Rattle.gb_folder.specs.Files.{Contents}
 use Rattle.gb_build.proofs.Readings.{not_read, registered}
-use Rattle.gb_meaning.specs.Edits.{Shown}
+use Rattle.gb_semantics.specs.Edits.{Shown}
 use Rattle.gb_plan.specs.Graph.{IsRegistry, Registry}
 use Rattle.gb_declare.specs.Registered.{registry_said}
 use Rattle.gb_registry.specs.Tables.{tables_of}

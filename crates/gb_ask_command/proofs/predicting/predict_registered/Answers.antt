@@ -2,7 +2,7 @@ use Rattle.std.proofs.Common.{◌≡◌, List, IfErr, IfOk, inl, sym, subst}
 use Rattle.std.proofs.lemmas.Result.{err_from_is_err_and}
 use Rattle.gb_build.proofs.Buildable.{are_buildable}
 use Rattle.gb_build.specs.Asking.{AreBuildable}
-use Rattle.gb_meaning.specs.Edits.{Shown}
+use Rattle.gb_semantics.specs.Edits.{Shown}
 use Rattle.gb_plan.specs.Graph.{IsRegistry, Registry}
 use Rattle.gb_plan.specs.Task.{Text}
 use Rattle.gb_declare.specs.Registered.{registry_said}

@@ -5,7 +5,7 @@ use Rattle.gb_task.specs.Buildable.{IsBuildable}
 use Rattle.gb_graph.specs.Answer.{IsRefusalOf}
 use Rattle.gb_build.proofs.Planning.{can_build}
 use Rattle.gb_build.specs.Refusing.{IsUnread}
-use Rattle.gb_meaning.specs.Edits.{Shown}
+use Rattle.gb_semantics.specs.Edits.{Shown}
 use Rattle.gb_plan.specs.Graph.{Plan}
 use Rattle.gb_plan.specs.declared.plan.Planned.{Planned}
 use Rattle.gb_ask_command.specs.Reported.{Answer, AreReported, AreReportedOf, IsNotReported}

@@ -2,7 +2,7 @@ use Rattle.std.proofs.Common.{subst}
 use Rattle.std.specs.Prelude.{IfOk, string_bytes}
 use Rattle.gb_declare.specs.Registered.{registry_said}
 use Rattle.gb_folder.specs.Files.{Contents}
-use Rattle.gb_meaning.specs.Edits.{Shown}
+use Rattle.gb_semantics.specs.Edits.{Shown}
 use Rattle.gb_plan.specs.Graph.{paths_of}
 use Rattle.gb_query.specs.Notation.{IsStatusOf}
 use Rattle.gb_registry.specs.Tables.{tables_of}

@@ -1,7 +1,7 @@
 use Rattle.std.proofs.Common.{subst}
 use Rattle.std.specs.Prelude.{IfOk, string_bytes}
 use Rattle.gb_declare.specs.Registered.{registry_said}
-use Rattle.gb_meaning.specs.Edits.{Shown}
+use Rattle.gb_semantics.specs.Edits.{Shown}
 use Rattle.gb_query.specs.Notation.{IsTasksText}
 use Rattle.gb_registry.specs.Tables.{tables_of}
 use Rattle.gb_registry.specs.declared.tables.Tables as handed

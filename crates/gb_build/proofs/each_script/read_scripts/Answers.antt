@@ -1,12 +1,12 @@
 use Rattle.std.proofs.Common.{Err, Ok, subst, ◌∙◌, inl, inr}
 use Rattle.gb_core.specs.Place.{is_place}
 use Rattle.gb_folder.specs.Files.{Contents}
-use Rattle.gb_script.specs.Script.{Says}
+use Rattle.gb_script.specs.Script.{HasMeaning}
 use Rattle.gb_folder.proofs.Machine.{machine_before}
 use Rattle.gb_build.proofs.RowLemmas.{first_fault, long_more, parsed_more, passes_at, text_more}
 use Rattle.gb_build.proofs.SaidLemmas.{handed}
 use Rattle.gb_build.specs.Scripts.{script_place}
-use Rattle.gb_build.specs.Texts.{TextSays}
+use Rattle.gb_build.specs.Texts.{TextMeans}
 use Rattle.gb_folder.proofs.Asked.{requests_nothing, requests_then}
 use Rattle.gb_build.proofs.Parsed.{all_parsed_longer, parsed_longer}
 use Rattle.gb_build.proofs.each_script.read_scripts.Goals as goal
@@ -29,12 +29,12 @@ loop-project-preserved g c =
           parsed_more c.args.projects.now c.loop-project.project-index project c.loop-project.scripts.items _ c.in_ok-read_script_of.field-0
           c.loop-project-test.true c.project-item.is
           (all_parsed_longer (requests_nothing c.args.folder.now) c.read_script_of.ensures.reads.requests _ c.loop-project.scripts.items c.loop-project.invariant.parsed)
-          (parsed_longer Says c.loop-project.invariant.requests (requests_nothing c.read_script_of.new.folder) (script_place project.1) c.in_ok-read_script_of.field-0 c.in_ok-read_script_of.ensures.parsed)
+          (parsed_longer HasMeaning c.loop-project.invariant.requests (requests_nothing c.read_script_of.new.folder) (script_place project.1) c.in_ok-read_script_of.field-0 c.in_ok-read_script_of.ensures.parsed)
           c.in_ok-push.ensures.items;
       texts = λ faithful.
           text_more (F.device.contents c.args.folder.now).files c.args.projects.now c.loop-project.project-index project c.loop-project.scripts.items _ c.in_ok-read_script_of.field-0
           c.loop-project-test.true c.project-item.is (c.loop-project.invariant.texts (c.read_script_of.ensures.reads.requests.back faithful))
-          (subst (λ (folder : Contents). TextSays Says folder.files (script_place project.1) (Ok c.in_ok-read_script_of.field-0)) (c.loop-project.invariant.same (c.read_script_of.ensures.reads.requests.back faithful)) (c.in_ok-read_script_of.ensures.said faithful))
+          (subst (λ (folder : Contents). TextMeans HasMeaning folder.files (script_place project.1) (Ok c.in_ok-read_script_of.field-0)) (c.loop-project.invariant.same (c.read_script_of.ensures.reads.requests.back faithful)) (c.in_ok-read_script_of.ensures.said faithful))
           c.in_ok-push.ensures.items;
     }
 
@@ -48,5 +48,5 @@ returns-in_err-read_script_of-clause-said g c = λ faithful.
       | inl machine ↦ inl (machine_before _ _ _ fault c.loop-project.invariant.requests.count c.read_script_of.ensures.reads.requests.count machine)
       | inr bad ↦ inr (first_fault (F.device.contents c.args.folder.now).files c.args.projects.now c.loop-project.project-index project c.loop-project.scripts.items fault
           c.loop-project-test.true c.project-item.is (c.loop-project.invariant.texts (c.read_script_of.ensures.reads.requests.back faithful))
-          (subst (λ (folder : Contents). TextSays Says folder.files (script_place project.1) (Err fault)) (c.loop-project.invariant.same (c.read_script_of.ensures.reads.requests.back faithful)) bad))
+          (subst (λ (folder : Contents). TextMeans HasMeaning folder.files (script_place project.1) (Err fault)) (c.loop-project.invariant.same (c.read_script_of.ensures.reads.requests.back faithful)) bad))
     ])

@@ -4,7 +4,7 @@ use Rattle.std.specs.List.{list_all}
 use Rattle.gb_folder.specs.Files.{is_own, places_under}
 use Rattle.gb_folder.proofs.Elsewhere.{taken_there}
 use Rattle.gb_folder.proofs.Machine.{at_err, among_all}
-use Rattle.gb_meaning.specs.Edits.{LossStep, own_place}
+use Rattle.gb_semantics.specs.Edits.{LossStep, own_place}
 use Rattle.gb_build.specs.Answers.{edit_answer}
 use Rattle.gb_build.proofs.Editing.{lost_from, not_listed, shows}
 use Rattle.gb_folder.proofs.Asked.{requests_reading, requests_then, takes_where}

@@ -2,11 +2,11 @@ use Rattle.std.proofs.Common.{arith, ◌≡◌, List, [], ◌∷◌, ◌++◌, �
 use Rattle.std.proofs.lemmas.List.{take_more}
 use Rattle.gb_build.specs.Registering.{registers_in}
 use Rattle.gb_task.proofs.Recorded.{assumed_later}
-use Rattle.gb_meaning.proofs.Lemmas.Plain.{headline}
-use Rattle.gb_meaning.specs.declared.events.Answer.{Answer}
-use Rattle.gb_meaning.specs.declared.events.Event.{Event}
-use Rattle.gb_meaning.specs.Edits.{Shown}
-use Rattle.gb_meaning.specs.Headline.{AllKeepElsewhere, HasFailed, HaveHeardAll, times_attributed_in_all}
+use Rattle.gb_semantics.proofs.Lemmas.Plain.{headline}
+use Rattle.gb_semantics.specs.declared.events.Answer.{Answer}
+use Rattle.gb_semantics.specs.declared.events.Event.{Event}
+use Rattle.gb_semantics.specs.Edits.{Shown}
+use Rattle.gb_semantics.specs.Headline.{AllKeepElsewhere, HasFailed, HaveHeardAll, times_attributed_in_all}
 use Rattle.gb_registry.specs.Tables.{tables_of}
 use Rattle.gb_build.proofs.Alike.{leads_alike}
 use Rattle.gb_build.proofs.Blaming.{blamed_more}

@@ -1,11 +1,11 @@
 use Rattle.std.proofs.Common.{◌≡◌, ◌≤◌, ◌++◌, List, length, map, take, vec_len}
 use Rattle.std.specs.Vec.{vec_capacity}
 use Rattle.gb_build.specs.Registering.{registers_in}
-use Rattle.gb_meaning.specs.declared.events.Answer.{Answer}
-use Rattle.gb_meaning.specs.declared.events.Event.{Event}
-use Rattle.gb_meaning.specs.Edits.{Shown}
-use Rattle.gb_meaning.specs.Headline.{AllKeepElsewhere, HasFailed, HaveHeardAll, times_attributed_in_all}
-use Rattle.gb_meaning.specs.Kinds.{Kinds}
+use Rattle.gb_semantics.specs.declared.events.Answer.{Answer}
+use Rattle.gb_semantics.specs.declared.events.Event.{Event}
+use Rattle.gb_semantics.specs.Edits.{Shown}
+use Rattle.gb_semantics.specs.Headline.{AllKeepElsewhere, HasFailed, HaveHeardAll, times_attributed_in_all}
+use Rattle.gb_semantics.specs.Kinds.{Kinds}
 use Rattle.gb_records.specs.Assumed.{IsAssumed}
 use Rattle.gb_registry.specs.Tables.{tables_of}
 use Rattle.gb_build.specs.EventAsked.{EventsRequest}

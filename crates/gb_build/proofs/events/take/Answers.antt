@@ -1,11 +1,11 @@
 use Rattle.std.proofs.Common.{sym, subst}
 use Rattle.gb_build.specs.Registering.{registers_in}
 use Rattle.gb_build.specs.Leading.{IsTransition}
-use Rattle.gb_meaning.specs.declared.events.Answer.{Answer}
-use Rattle.gb_meaning.specs.declared.events.Event.{Event}
-use Rattle.gb_meaning.specs.declared.events.Event.TheVariants as events
-use Rattle.gb_meaning.specs.Edits.{Shown}
-use Rattle.gb_meaning.specs.Headline.{EventKeeps, HasFailed, times_attributed}
+use Rattle.gb_semantics.specs.declared.events.Answer.{Answer}
+use Rattle.gb_semantics.specs.declared.events.Event.{Event}
+use Rattle.gb_semantics.specs.declared.events.Event.TheVariants as events
+use Rattle.gb_semantics.specs.Edits.{Shown}
+use Rattle.gb_semantics.specs.Headline.{EventKeeps, HasFailed, times_attributed}
 use Rattle.gb_registry.specs.Tables.{tables_of}
 use Rattle.gb_build.specs.Answers.{edit_answer}
 use Rattle.gb_build.proofs.Blaming.{edit_blames}

@@ -3,15 +3,15 @@ use Rattle.std.specs.Prelude.{OnOk}
 use Rattle.gb_folder.specs.Files.{is_own}
 use Rattle.std.proofs.lemmas.Result.{err_from_is_err_and}
 use Rattle.gb_build.specs.Asking.{AreBuildable, NoneBlameDevice}
-use Rattle.gb_meaning.specs.Edits.{Shown}
+use Rattle.gb_semantics.specs.Edits.{Shown}
 use Rattle.gb_build.specs.Leading.{IsTransition}
 use Rattle.gb_build.specs.Refusing.{IsNotBegun}
 use Rattle.gb_build.proofs.Refusing.{refused_at}
 use Rattle.gb_report.specs.declared.fault.Fault.{Fault}
 use Rattle.gb_report.specs.declared.fault.Fault.TheVariants as faults
 use Rattle.gb_build.proofs.Keeping.{each_fault, of_fault}
-use Rattle.gb_meaning.specs.declared.events.Event.TheVariants as events
-use Rattle.gb_meaning.specs.Headline.{KeepsElsewhere, answer_of}
+use Rattle.gb_semantics.specs.declared.events.Event.TheVariants as events
+use Rattle.gb_semantics.specs.Headline.{KeepsElsewhere, answer_of}
 use Rattle.gb_plan.specs.Graph.{IsRegistry, Registry}
 use Rattle.gb_registry.specs.SoFar.{scripts_in}
 use Rattle.gb_registry.specs.Tables.{tables_of}

@@ -4,10 +4,10 @@ use Rattle.std.proofs.lemmas.Result.{err_from_is_err_and}
 use Rattle.gb_folder.specs.Files.{Contents, is_own}
 use Rattle.gb_folder.proofs.Asked.{requests_nothing}
 use Rattle.gb_declare.specs.Registered.{registry_said}
-use Rattle.gb_meaning.specs.Edits.{Shown}
-use Rattle.gb_meaning.specs.Events.{IsNotBuilt, is_read_first}
-use Rattle.gb_meaning.specs.Headline.{KeepsElsewhere, answer_of, times_attributed}
-use Rattle.gb_meaning.specs.declared.events.Event.TheVariants as events
+use Rattle.gb_semantics.specs.Edits.{Shown}
+use Rattle.gb_semantics.specs.Events.{IsNotBuilt, is_read_first}
+use Rattle.gb_semantics.specs.Headline.{KeepsElsewhere, answer_of, times_attributed}
+use Rattle.gb_semantics.specs.declared.events.Event.TheVariants as events
 use Rattle.gb_plan.specs.Graph.{IsRegistry}
 use Rattle.gb_records.specs.Assumed.{IsAssumed}
 use Rattle.gb_records.specs.Setting.{setting_by}

@@ -2,10 +2,10 @@ use Rattle.std.proofs.Common.{[], refl, subst}
 use Rattle.gb_folder.specs.Files.{Contents, Files}
 use Rattle.gb_history.specs.Places.{record_place}
 use Rattle.gb_build.specs.Registering.{setting_of}
-use Rattle.gb_meaning.specs.Every.{PromiseHolds}
-use Rattle.gb_meaning.specs.Events.{Setting}
-use Rattle.gb_meaning.specs.Assumed.{leaves_nothing}
-use Rattle.gb_meaning.specs.Headline.{HoldsMemory, TornWritesAreDetected}
+use Rattle.gb_semantics.specs.Every.{PromiseHolds}
+use Rattle.gb_semantics.specs.Events.{Setting}
+use Rattle.gb_semantics.specs.Assumed.{leaves_nothing}
+use Rattle.gb_semantics.specs.Headline.{HoldsMemory, TornWritesAreDetected}
 use Rattle.gb_records.specs.Said.{IsText}
 use Rattle.gb_registry.specs.Tables.{tables_of}
 use Rattle.gb_build.proofs.nothing.run_from_nothing.Goals as goal

@@ -16,7 +16,7 @@ use Rattle.gb_build.proofs.PlaceLemmas.{places_good}
 use Rattle.gb_build.proofs.SaidLemmas.{handed, put_together, scripts_here, scripts_refused}
 use Rattle.gb_folder.specs.Files.{Place}
 use Rattle.gb_folder.proofs.Asked.{requests_nothing}
-use Rattle.gb_script.specs.Script.{SaysAsSettings}
+use Rattle.gb_script.specs.Script.{MeansAsSettings}
 use Rattle.gb_build.specs.Found.{WereParsed}
 use Rattle.gb_build.specs.Scripts.{script_places, settings_place}
 use Rattle.gb_build.proofs.Parsed.{all_parsed_longer, declared_here, parsed_longer}
@@ -101,7 +101,7 @@ returns-clause-declared g c =
     let given = c.args.given.items in
     let projects = c.in_ok-projects.ensures.projects in
     declared_here F.device tables given old new c.in_ok-settings.settings texts c.configure_projects.result (λ configured. configured.registry)
-    (parsed_longer SaysAsSettings (requests_nothing old) c.read_scripts.ensures.reads.requests settings_place c.in_ok-settings.settings c.in_ok-settings.ensures.parsed)
+    (parsed_longer MeansAsSettings (requests_nothing old) c.read_scripts.ensures.reads.requests settings_place c.in_ok-settings.settings c.in_ok-settings.ensures.parsed)
     c.in_ok-projects.ensures.faults
     (subst (λ (ps : List (Path × Option Place)). WereParsed F.device old new (script_places ps) texts) (c.as_slice.ensures ∙ ap with_folders projects)
     (all_parsed_longer c.read_settings_of.ensures.reads.requests (requests_nothing new) _ texts c.in_ok-scripts.ensures.parsed))

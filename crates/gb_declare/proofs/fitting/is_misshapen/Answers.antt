@@ -2,7 +2,7 @@ use Rattle.std.proofs.Common.{◌≡◌, ℕ, Bool, List, ◌||◌, sym, ap, ◌
 use Rattle.std.specs.Borrow.{Bor}
 use Rattle.std.specs.List.{list_any}
 use Rattle.std.specs.FinMap.Entries.{find}
-use Rattle.gb_action.specs.declared.output.Form.{Form}
+use Rattle.gb_action.specs.declared.output_files.Form.{Form}
 use Rattle.gb_core.specs.Lists.{byte_order}
 use Rattle.gb_script.specs.declared.script.Call.{Call}
 use Rattle.gb_registry.specs.Tables.{tables_of}

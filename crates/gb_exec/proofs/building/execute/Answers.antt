@@ -1,9 +1,9 @@
 use Rattle.std.proofs.Common.{cond, Bool, true, List, [], inl, inr, map, sym, ap, subst, ◌∙◌}
 use Rattle.std.specs.List.{AllZip, flat_map}
 use Rattle.gb_exec.specs.Notifying.{AllReported}
-use Rattle.gb_meaning.specs.Events.{State}
-use Rattle.gb_meaning.specs.Outline.{AreOutlines}
-use Rattle.gb_meaning.specs.Execution.{dry_reports, heard_of}
+use Rattle.gb_semantics.specs.Events.{State}
+use Rattle.gb_semantics.specs.Outline.{AreOutlines}
+use Rattle.gb_semantics.specs.Execution.{dry_reports, heard_of}
 use Rattle.gb_plan.specs.declared.plan.Planned.{Planned}
 use Rattle.gb_printer.specs.Printing.{Prints}
 use Rattle.gb_printer.proofs.Printed.{prints_nothing}
@@ -11,7 +11,7 @@ use Rattle.gb_report.specs.Report.{task_text}
 use Rattle.gb_report.specs.declared.report.TaskReport.{TaskReport}
 use Rattle.gb_task.specs.Executing.{setting_with}
 use Rattle.gb_exec.specs.Built.{HasBuilt}
-use Rattle.gb_meaning.specs.Headline.{HasFailed}
+use Rattle.gb_semantics.specs.Headline.{HasFailed}
 use Rattle.gb_exec.specs.Failing.{times_attributed}
 use Rattle.gb_exec.specs.Reports.{IsOf}
 use Rattle.gb_exec.proofs.Skipping.{dry_blames, dry_built, dry_of}

@@ -1,5 +1,5 @@
 use Rattle.std.proofs.Common.{◌≡◌, take}
-use Rattle.gb_meaning.specs.Execution.{dry_reports}
+use Rattle.gb_semantics.specs.Execution.{dry_reports}
 use Rattle.gb_exec.proofs.dry.dry_reports.Given as goal
 
 abbrev pub invariant-loop-planned : goal.invariant-loop-planned

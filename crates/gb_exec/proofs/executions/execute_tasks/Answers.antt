@@ -7,10 +7,10 @@ use Rattle.std.proofs.lemmas.Bool.{cases_order}
 use Rattle.gb_core.specs.Path.{is_task_path}
 use Rattle.gb_folder.specs.Files.{Contents, IsFolder, are_placed, is_own}
 use Rattle.gb_exec.specs.Notifying.{AllReported}
-use Rattle.gb_meaning.specs.Events.{State}
-use Rattle.gb_meaning.specs.Outline.{AreOutlines, moment_by}
-use Rattle.gb_meaning.specs.Execution.{heard_of}
-use Rattle.gb_meaning.proofs.Lemmas.Success.{folder_where}
+use Rattle.gb_semantics.specs.Events.{State}
+use Rattle.gb_semantics.specs.Outline.{AreOutlines, moment_by}
+use Rattle.gb_semantics.specs.Execution.{heard_of}
+use Rattle.gb_semantics.proofs.Lemmas.Success.{folder_where}
 use Rattle.gb_plan.proofs.Tests.{not_false, not_true}
 use Rattle.gb_plan.specs.Graph.{no_repeats, order}
 use Rattle.gb_plan.specs.Task.{Path}
@@ -33,7 +33,7 @@ use Rattle.gb_exec.specs.Asking.{ExecutionsRequest}
 use Rattle.gb_task.specs.Buildable.{IsBuildable}
 use Rattle.gb_exec.proofs.Asking.{AreSoFar, executions_places, executions_until, more_so_far, none_so_far}
 use Rattle.gb_task.proofs.ByOutcome.{execution_places}
-use Rattle.gb_meaning.specs.Headline.{HasFailed}
+use Rattle.gb_semantics.specs.Headline.{HasFailed}
 use Rattle.gb_exec.specs.Failing.{times_attributed}
 use Rattle.gb_exec.specs.Reports.{IsOf}
 use Rattle.gb_exec.proofs.Counting.{failed_more}

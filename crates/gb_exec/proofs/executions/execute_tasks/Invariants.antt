@@ -4,11 +4,11 @@ use Rattle.std.specs.Vec.{vec_capacity}
 use Rattle.std.specs.Vec.Iter.{into_iter_items}
 use Rattle.gb_folder.specs.Files.{Bytes}
 use Rattle.gb_exec.specs.Notifying.{AllReported}
-use Rattle.gb_meaning.specs.Headline.{HasFailed}
-use Rattle.gb_meaning.specs.Kinds.{Kinds}
-use Rattle.gb_meaning.specs.Memory.{Memory}
-use Rattle.gb_meaning.specs.Outline.{AreOutlines}
-use Rattle.gb_meaning.specs.Execution.{heard_of}
+use Rattle.gb_semantics.specs.Headline.{HasFailed}
+use Rattle.gb_semantics.specs.Kinds.{Kinds}
+use Rattle.gb_semantics.specs.Memory.{Memory}
+use Rattle.gb_semantics.specs.Outline.{AreOutlines}
+use Rattle.gb_semantics.specs.Execution.{heard_of}
 use Rattle.gb_plan.specs.Graph.{order}
 use Rattle.gb_printer.specs.Printing.{Prints}
 use Rattle.gb_report.specs.Report.{task_text}

@@ -3,8 +3,8 @@ use Rattle.std.proofs.lemmas.List.{get_or_default}
 use Rattle.std.proofs.lemmas.Option.{slice_get-get_or, get_or_from_slice_get}
 use Rattle.gb_task.specs.Case.{IsKnown}
 use Rattle.gb_exec.specs.Notifying.{AllReported}
-use Rattle.gb_meaning.proofs.Common.{some_same}
-use Rattle.gb_meaning.specs.Outline.{IsOutline}
+use Rattle.gb_semantics.proofs.Common.{some_same}
+use Rattle.gb_semantics.specs.Outline.{IsOutline}
 use Rattle.gb_plan.proofs.Tests.{not_false, not_true}
 use Rattle.gb_plan.specs.declared.plan.Planned.{Planned}
 use Rattle.gb_report.specs.Outcome.{is_started}
@@ -21,7 +21,7 @@ use Rattle.gb_exec.proofs.Outlining.{outline_passed, outline_started}
 use Rattle.gb_exec.proofs.Taking.{own_separate, read_so, execution_passed, execution_started}
 use Rattle.gb_history.specs.Record.{Record}
 use Rattle.gb_task.specs.ByOutcome.{ExecutionRequests, since_after}
-use Rattle.gb_tree.specs.Seen.{AreSeen}
+use Rattle.gb_tree.specs.DigestCache.{AreCached}
 use Rattle.std.specs.Prelude.{Option}
 use Rattle.gb_exec.proofs.one_task.execute_one.Goals as goal
 use Rattle.gb_exec.proofs.one_task.execute_one.Goals.{then-begun, else-begun}
@@ -157,7 +157,7 @@ pub returns-then-not-does_start-clause-seen : goal.returns-then-not-does_start-c
 returns-then-not-does_start-clause-seen g c = λ since before was.
     let F = g.F.Folder in
     let now = c.args.folder.now in
-    subst (λ (r : TaskReport). AreSeen F.device (since_after r.outcome since now) now c.args.seen.now) (sym c.not_run_report.ensures) was
+    subst (λ (r : TaskReport). AreCached F.device (since_after r.outcome since now) now c.args.seen.now) (sym c.not_run_report.ensures) was
 
 pub returns-clause-requests : goal.returns-clause-requests
 returns-clause-requests g c = λ planned at since before was.

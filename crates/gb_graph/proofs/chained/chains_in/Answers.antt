@@ -8,8 +8,8 @@ use Rattle.gb_graph.specs.Conflicts.{GiveChains}
 use Rattle.gb_graph.proofs.Planned.{lower, chains_reported}
 use Rattle.gb_graph.proofs.chained.chains_in.Goals as goal
 
-pub in_turn-requires : goal.in_turn-requires
-in_turn-requires c =
+pub in_number_order-requires : goal.in_number_order-requires
+in_number_order-requires c =
     let after = c.in_ok-after.after.items in
     subst (λ vs. (task before : ℕ) → Contains (row (rows vs) task) before → before < task) (sym c.as_slice.ensures.value)
     (lower c.args.tasks.now c.requires.once (rows after) c.in_ok-after.ensures c.requires.ready)

@@ -2,7 +2,7 @@ use Rattle.std.proofs.Common.{◌≡◌, ◌+◌, ℕ, Option, false, length, ge
 use Rattle.std.proofs.Math.Seq.{take-length}
 use Rattle.std.proofs.lemmas.List.{get_or_default}
 use Rattle.std.proofs.lemmas.List.Elements.{Contains-get_or}
-use Rattle.gb_graph.specs.Settled.{exists_in}
+use Rattle.gb_graph.specs.Settled.{is_marked}
 use Rattle.gb_graph.specs.Cycle.{IsLeastNumber}
 use Rattle.gb_graph.proofs.Rounds.{IsWithin, so_far_marked, so_far_shut}
 use Rattle.gb_graph.proofs.cycle.least_of.Goals as goal
@@ -24,7 +24,7 @@ loop-number-preserved c =
     let known = c.requires.known t (Contains-get_or numbers i 0 lt) in
     let old = c.loop-number.invariant in
     let is = get_or_default numbers i 0 t lt in
-    let SoFar : Option ℕ → Type 0 = λ found. MatchOption found ((k : ℕ) → Contains (take (i + 1) numbers) k → exists_in marks k ≡ false) (λ k. IsLeastNumber tasks (take (i + 1) numbers) marks k) in
+    let SoFar : Option ℕ → Type 0 = λ found. MatchOption found ((k : ℕ) → Contains (take (i + 1) numbers) k → is_marked marks k ≡ false) (λ k. IsLeastNumber tasks (take (i + 1) numbers) marks k) in
     elim c.if-marks-number.branch [
       | then-marks-number w ↦
           let next = so_far_marked tasks marks numbers i t lt is known c.loop-number.least w.lesser.result old.reported old.known w.if-marks-number.true w.lesser.ensures in
@@ -39,5 +39,5 @@ pub returns : goal.returns
 returns c =
     let numbers = c.args.numbers.now in
     let e : length numbers ≡ c.loop-number.number-index = omega (arith, c.loop-number-test.false, c.loop-number.auto.number-index-end) in
-    subst (λ ks. MatchOption c.loop-number.least ((k : ℕ) → Contains ks k → exists_in c.args.marks.now k ≡ false) (λ k. IsLeastNumber c.args.tasks.now ks c.args.marks.now k))
+    subst (λ ks. MatchOption c.loop-number.least ((k : ℕ) → Contains ks k → is_marked c.args.marks.now k ≡ false) (λ k. IsLeastNumber c.args.tasks.now ks c.args.marks.now k))
     (ap (λ n. take n numbers) (sym e) ∙ take-length numbers) c.loop-number.invariant.reported

@@ -1,7 +1,7 @@
 use Rattle.std.proofs.Common.{◌≡◌, ◌++◌, ℕ, false, Contains, MatchOption, refl, sym, ap, subst, ◌∙◌, arith, inl}
 use Rattle.gb_plan.proofs.Same.{In}
 use Rattle.gb_graph.specs.Order.{rows}
-use Rattle.gb_graph.specs.Settled.{exists_in}
+use Rattle.gb_graph.specs.Settled.{is_marked}
 use Rattle.gb_graph.specs.Cycle.{IsLeastNumber, IsRound}
 use Rattle.gb_graph.proofs.Numbers.{in_of, of_in, in_back}
 use Rattle.gb_graph.proofs.Rounds.{least_or, round_is, exists_within}
@@ -38,7 +38,7 @@ cut-requires-2 c =
     let back = c.in_ok-trail.back in
     let begins : Contains round back = of_in back round (subst (λ ks. In back ks) (sym c.in_ok-round.ensures.1.1) (inl refl)) in
     let least = least_or c.args.tasks.now round c.args.marks.now c.least_of-2.result
-    (subst (λ ks. MatchOption c.least_of-2.result ((k : ℕ) → Contains ks k → exists_in c.args.marks.now k ≡ false) (λ k. IsLeastNumber c.args.tasks.now ks c.args.marks.now k)) c.as_slice-2.ensures.value c.least_of-2.ensures)
+    (subst (λ ks. MatchOption c.least_of-2.result ((k : ℕ) → Contains ks k → is_marked c.args.marks.now k ≡ false) (λ k. IsLeastNumber c.args.tasks.now ks c.args.marks.now k)) c.as_slice-2.ensures.value c.least_of-2.ensures)
     back begins (t.marked back t.comes_back) c.unwrap_or-first.result c.unwrap_or-first.ensures in
     subst (λ ks. Contains ks c.unwrap_or-first.result) (sym c.as_slice-3.ensures.value) least.is_in
 
@@ -57,7 +57,7 @@ returns c =
     let begins : Contains round back = of_in back round (subst (λ ks. In back ks) (sym c.in_ok-round.ensures.1.1) (inl refl)) in
     let start_least = least_or tasks c.args.numbers.now marks c.least_of.result c.least_of.ensures c.requires.some.0 c.requires.some.1 c.requires.some.2 c.unwrap_or-start.result c.unwrap_or-start.ensures in
     let least = least_or tasks round marks c.least_of-2.result
-    (subst (λ ks. MatchOption c.least_of-2.result ((k : ℕ) → Contains ks k → exists_in marks k ≡ false) (λ k. IsLeastNumber tasks ks marks k)) c.as_slice-2.ensures.value c.least_of-2.ensures)
+    (subst (λ ks. MatchOption c.least_of-2.result ((k : ℕ) → Contains ks k → is_marked marks k ≡ false) (λ k. IsLeastNumber tasks ks marks k)) c.as_slice-2.ensures.value c.least_of-2.ensures)
     back begins (t.marked back t.comes_back) first c.unwrap_or-first.ensures in
     subst (IsRound tasks (rows c.args.after.now) marks c.args.numbers.now) (sym (c.in_ok-extend_from_slice.ensures.items ∙ ap (λ e. most ++ e) c.as_slice-4.ensures.value))
     (round_is tasks (rows c.args.after.now) marks c.args.numbers.now c.unwrap_or-start.result back first trail prefix round end most c.in_ok-round.ensures.1.0 c.in_ok-end.ensures.1.0

@@ -6,7 +6,7 @@ use Rattle.gb_plan.specs.Task.{Path}
 use Rattle.gb_plan.specs.Graph.{order, stuck}
 use Rattle.gb_plan.specs.Refusal.{IsCycle}
 use Rattle.gb_graph.specs.Order.{rows, row}
-use Rattle.gb_graph.specs.Settled.{exists_in}
+use Rattle.gb_graph.specs.Settled.{is_marked}
 use Rattle.gb_graph.specs.Cycle.{IsRound, path_at}
 use Rattle.gb_graph.proofs.Cycled.{cycle_is, cycle_known, paths_are, comes_after_other}
 use Rattle.gb_graph.proofs.Firsts.{element}
@@ -24,8 +24,8 @@ round_of-requires c =
     let ranks = c.requires.ranks in
     let marks = c.in_ok-marks.marks.items in
     let reported = c.in_ok-marks.ensures.reported in
-    let shows : (k : ℕ) → exists_in marks k ≡ true → Contains others k = λ k h. subst (λ ks. Contains ks k) c.as_slice.ensures.value ((reported k).0 h) in
-    let marked : (k : ℕ) → Contains others k → exists_in marks k ≡ true = λ k h. (reported k).1 (subst (λ ks. Contains ks k) (sym c.as_slice.ensures.value) h) in
+    let shows : (k : ℕ) → is_marked marks k ≡ true → Contains others k = λ k h. subst (λ ks. Contains ks k) c.as_slice.ensures.value ((reported k).0 h) in
+    let marked : (k : ℕ) → Contains others k → is_marked marks k ≡ true = λ k h. (reported k).1 (subst (λ ks. Contains ks k) (sym c.as_slice.ensures.value) h) in
     let some = c.requires.some in
     let long = ap length c.as_slice-2.ensures.value in
     let wide : length table ≡ length c.args.ranks.now.after.items = length-map c.args.ranks.now.after.items (λ v. v.items) in
@@ -35,10 +35,10 @@ round_of-requires c =
       rows = omega (arith, long, wide, ranks.reported.each);
       each = omega (arith, marks_long, c.in_ok-marks.ensures.each);
       among = λ k h. (ranks.are_others.within k (subst (λ ks. Contains ks k) c.as_slice-4.ensures.value h)).0;
-      some = (some.0, subst (λ ks. Contains ks some.0) (sym c.as_slice-4.ensures.value) some.1, subst (λ ms. exists_in ms some.0 ≡ true) (sym c.as_slice-3.ensures.value) (marked some.0 some.1));
+      some = (some.0, subst (λ ks. Contains ks some.0) (sym c.as_slice-4.ensures.value) some.1, subst (λ ms. is_marked ms some.0 ≡ true) (sym c.as_slice-3.ensures.value) (marked some.0 some.1));
       goes_on = λ k h.
-          let next = comes_after_other tasks table done others ranks k (shows k (subst (λ ms. exists_in ms k ≡ true) c.as_slice-3.ensures.value h)) in
-          (next.0, subst (λ vs. Contains (row (rows vs) k) next.0) (sym c.as_slice-2.ensures.value) next.1, subst (λ ms. exists_in ms next.0 ≡ true) (sym c.as_slice-3.ensures.value) (marked next.0 next.2));
+          let next = comes_after_other tasks table done others ranks k (shows k (subst (λ ms. is_marked ms k ≡ true) c.as_slice-3.ensures.value h)) in
+          (next.0, subst (λ vs. Contains (row (rows vs) k) next.0) (sym c.as_slice-2.ensures.value) next.1, subst (λ ms. is_marked ms next.0 ≡ true) (sym c.as_slice-3.ensures.value) (marked next.0 next.2));
     }
 
 pub paths_of-requires : goal.paths_of-requires
@@ -50,8 +50,8 @@ paths_of-requires c = λ k h.
     let ranks = c.requires.ranks in
     let marks = c.in_ok-marks.marks.items in
     let reported = c.in_ok-marks.ensures.reported in
-    let shows : (k : ℕ) → exists_in marks k ≡ true → Contains others k = λ k h. subst (λ ks. Contains ks k) c.as_slice.ensures.value ((reported k).0 h) in
-    let marked : (k : ℕ) → Contains others k → exists_in marks k ≡ true = λ k h. (reported k).1 (subst (λ ks. Contains ks k) (sym c.as_slice.ensures.value) h) in
+    let shows : (k : ℕ) → is_marked marks k ≡ true → Contains others k = λ k h. subst (λ ks. Contains ks k) c.as_slice.ensures.value ((reported k).0 h) in
+    let marked : (k : ℕ) → Contains others k → is_marked marks k ≡ true = λ k h. (reported k).1 (subst (λ ks. Contains ks k) (sym c.as_slice.ensures.value) h) in
     let is : IsRound tasks table marks others c.in_ok-round.round.items =
     subst (λ t. IsRound tasks t marks others c.in_ok-round.round.items) (ap rows c.as_slice-2.ensures.value)
     (subst (λ m. IsRound tasks (rows c.as_slice-2.result.now) m others c.in_ok-round.round.items) c.as_slice-3.ensures.value
@@ -69,8 +69,8 @@ returns c =
     let ranks = c.requires.ranks in
     let marks = c.in_ok-marks.marks.items in
     let reported = c.in_ok-marks.ensures.reported in
-    let shows : (k : ℕ) → exists_in marks k ≡ true → Contains others k = λ k h. subst (λ ks. Contains ks k) c.as_slice.ensures.value ((reported k).0 h) in
-    let marked : (k : ℕ) → Contains others k → exists_in marks k ≡ true = λ k h. (reported k).1 (subst (λ ks. Contains ks k) (sym c.as_slice.ensures.value) h) in
+    let shows : (k : ℕ) → is_marked marks k ≡ true → Contains others k = λ k h. subst (λ ks. Contains ks k) c.as_slice.ensures.value ((reported k).0 h) in
+    let marked : (k : ℕ) → Contains others k → is_marked marks k ≡ true = λ k h. (reported k).1 (subst (λ ks. Contains ks k) (sym c.as_slice.ensures.value) h) in
     let is : IsRound tasks table marks others c.in_ok-round.round.items =
     subst (λ t. IsRound tasks t marks others c.in_ok-round.round.items) (ap rows c.as_slice-2.ensures.value)
     (subst (λ m. IsRound tasks (rows c.as_slice-2.result.now) m others c.in_ok-round.round.items) c.as_slice-3.ensures.value

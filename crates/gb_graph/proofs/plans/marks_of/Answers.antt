@@ -4,7 +4,7 @@ use Rattle.std.proofs.Math.Seq.{take-length}
 use Rattle.std.proofs.lemmas.List.{get_or_default, get_or-set_same}
 use Rattle.std.proofs.lemmas.Bool.{cases_eq}
 use Rattle.std.proofs.lemmas.List.Elements.{Contains-get_or}
-use Rattle.gb_graph.specs.Settled.{exists_in}
+use Rattle.gb_graph.specs.Settled.{is_marked}
 use Rattle.gb_graph.proofs.Edges.{take_grows}
 use Rattle.gb_graph.proofs.Keeping.{mark_kept, mark_other}
 use Rattle.gb_graph.proofs.plans.marks_of.Goals as goal
@@ -32,7 +32,7 @@ loop-number-preserved c =
             ],
             λ h. elim (grows.0 h) [
               | inl old ↦ mark_kept exists t k lt ((c.loop-number.invariant.reported k).1 old)
-              | inr e ↦ ap (exists_in (set exists t true)) (sym e) ∙ get_or-set_same exists t true false lt
+              | inr e ↦ ap (is_marked (set exists t true)) (sym e) ∙ get_or-set_same exists t true false lt
             ],
           );
     }
@@ -44,5 +44,5 @@ returns c =
     let whole : take c.loop-number.number-index numbers ≡ numbers = ap (λ n. take n numbers) (sym e) ∙ take-length numbers in
     record {
       each = omega (arith, c.loop-number.invariant.each);
-      reported = λ k. subst (λ ks. (exists_in c.loop-number.marks.items k ≡ true → Contains ks k) × (Contains ks k → exists_in c.loop-number.marks.items k ≡ true)) whole (c.loop-number.invariant.reported k);
+      reported = λ k. subst (λ ks. (is_marked c.loop-number.marks.items k ≡ true → Contains ks k) × (Contains ks k → is_marked c.loop-number.marks.items k ≡ true)) whole (c.loop-number.invariant.reported k);
     }

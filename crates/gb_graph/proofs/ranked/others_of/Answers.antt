@@ -5,7 +5,7 @@ use Rattle.std.proofs.lemmas.List.{get_or_default, get_or-set_same}
 use Rattle.std.proofs.lemmas.Bool.{cases_eq, cases_Bool}
 use Rattle.std.proofs.lemmas.List.Elements.{Contains-get_or, Contains-append_left, Contains-push, Contains-push_cases}
 use Rattle.gb_graph.specs.Ranked.{AreDistinct}
-use Rattle.gb_graph.specs.Settled.{exists_in}
+use Rattle.gb_graph.specs.Settled.{is_marked}
 use Rattle.gb_graph.proofs.Edges.{take_grows}
 use Rattle.gb_graph.proofs.Keeping.{mark_kept, mark_other, not_both}
 use Rattle.gb_graph.proofs.Numbers.{separate_push}
@@ -35,7 +35,7 @@ loop-number-preserved c =
             ],
             λ h. elim (grows.0 h) [
               | inl old ↦ mark_kept exists t k lt ((c.loop-number.invariant.reported k).1 old)
-              | inr e ↦ ap (exists_in (set exists t true)) (sym e) ∙ get_or-set_same exists t true false lt
+              | inr e ↦ ap (is_marked (set exists t true)) (sym e) ∙ get_or-set_same exists t true false lt
             ],
           );
     }
@@ -50,13 +50,13 @@ loop-number-2-preserved c =
     elim c.if-not-index.branch [
       | then-not-index+in_ok-push w ↦
           let is : c.if-not-index.others.items ≡ others ++ n ∷ [] = ap (λ (v : _). v.items) w.others-is ∙ w.in_ok-push.ensures.items in
-          let opened : exists_in exists n ≡ false = get_or_default exists n false c.index.result.now fits ∙ (sym c.index.ensures ∙ w.if-not-index.true) in
+          let opened : is_marked exists n ≡ false = get_or_default exists n false c.index.result.now fits ∙ (sym c.index.ensures ∙ w.if-not-index.true) in
           record {
             separate = subst AreDistinct (sym is) (separate_push others n old.separate (λ h. let low = ((old.reported n).0 h).0 in omega (arith, low)));
             reported = λ k. (
               λ h. elim (Contains-push_cases others n k (subst (λ xs. Contains xs k) is h)) [
                 | inl g ↦ let at = (old.reported k).0 g in (omega (arith, at.0), at.1)
-                | inr e ↦ (omega (arith, e), ap (exists_in exists) (sym e) ∙ opened)
+                | inr e ↦ (omega (arith, e), ap (is_marked exists) (sym e) ∙ opened)
               ],
               λ h. subst (λ xs. Contains xs k) (sym is) (elim (cases_eq k n) [
                 | inl e ↦ subst (λ v. Contains (others ++ n ∷ []) v) (sym e) (Contains-push others n)
@@ -66,13 +66,13 @@ loop-number-2-preserved c =
           }
       | else-not-index w ↦
           let is : c.if-not-index.others.items ≡ others = ap (λ (v : _). v.items) w.others-is in
-          let shut : exists_in exists n ≡ true = get_or_default exists n false c.index.result.now fits ∙ (sym c.index.ensures ∙ w.if-not-index.false) in
+          let shut : is_marked exists n ≡ true = get_or_default exists n false c.index.result.now fits ∙ (sym c.index.ensures ∙ w.if-not-index.false) in
           record {
             separate = subst AreDistinct (sym is) old.separate;
             reported = λ k. (
               λ h. let at = (old.reported k).0 (subst (λ xs. Contains xs k) is h) in (omega (arith, at.0), at.1),
               λ h. subst (λ xs. Contains xs k) (sym is) (elim (cases_eq k n) [
-                | inl e ↦ not_both shut (ap (exists_in exists) (sym e) ∙ h.1)
+                | inl e ↦ not_both shut (ap (is_marked exists) (sym e) ∙ h.1)
                 | inr differs ↦ (old.reported k).1 (omega (arith, h.0, differs), h.1)
               ]),
             );
@@ -93,7 +93,7 @@ returns c =
           (omega (arith, at.0, all), λ g. not_both ((c.loop-number.invariant.reported k).1 (subst (λ xs. Contains xs k) (sym whole) g)) at.1);
       back = λ k lt lacks. (reported k).1 (
         omega (arith, lt, all),
-        elim (cases_Bool (exists_in exists k)) [
+        elim (cases_Bool (is_marked exists k)) [
           | inl h ↦ absurd (lacks (subst (λ xs. Contains xs k) whole ((c.loop-number.invariant.reported k).0 h)))
           | inr h ↦ h
         ],

@@ -1,7 +1,7 @@
 use Rattle.std.proofs.Common.{◌≡◌, ◌<◌, Contains, length, drop, sym, ap, subst, ◌∙◌, arith}
 use Rattle.std.proofs.lemmas.List.{length-map}
 use Rattle.gb_graph.specs.Order.{rows, row}
-use Rattle.gb_graph.specs.Settled.{exists_in}
+use Rattle.gb_graph.specs.Settled.{is_marked}
 use Rattle.gb_graph.proofs.Reached.{first_none, first_more, first_as, spread_as, prefix_of, none_exist}
 use Rattle.gb_graph.proofs.Rows.{rows_row}
 use Rattle.gb_graph.proofs.reach.first_starts.Goals as goal
@@ -10,7 +10,7 @@ pub loop-word-init : goal.loop-word-init
 loop-word-init c = record {
   marks = c.in_ok-exists.ensures.len;
   each = c.in_ok-words.ensures.len;
-  first = first_none (rows c.args.table.now) (rows c.args.starts.now) c.in_ok-exists.exists.items c.in_ok-words.words.items (λ k. ap (λ s. exists_in s k) (c.in_ok-exists.ensures.items_if_clones_equal (λ y h. h)) ∙ none_exist (length c.args.table.now) k);
+  first = first_none (rows c.args.table.now) (rows c.args.starts.now) c.in_ok-exists.exists.items c.in_ok-words.words.items (λ k. ap (λ s. is_marked s k) (c.in_ok-exists.ensures.items_if_clones_equal (λ y h. h)) ∙ none_exist (length c.args.table.now) k);
 }
 
 pub spread-requires : goal.spread-requires
@@ -23,7 +23,7 @@ spread-requires c =
       known = λ task h. c.requires.known c.loop-word.word task (subst (λ ts. Contains ts task) is h);
       marks = omega (arith, c.deref_mut.ensures.len, old.marks);
       each = omega (arith, c.deref_mut-in-loop-word.ensures.len, old.each);
-      closed = λ from task h e. ap (λ s. exists_in s task) c.deref_mut.ensures.value ∙ old.first.closed from task (ap (λ s. exists_in s from) (sym c.deref_mut.ensures.value) ∙ h) e;
+      closed = λ from task h e. ap (λ s. is_marked s task) c.deref_mut.ensures.value ∙ old.first.closed from task (ap (λ s. is_marked s from) (sym c.deref_mut.ensures.value) ∙ h) e;
     }
 
 pub loop-word-preserved : goal.loop-word-preserved

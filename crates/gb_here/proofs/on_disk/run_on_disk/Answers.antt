@@ -1,5 +1,5 @@
 use Rattle.std.specs.Prelude.{map, string_bytes}
-use Rattle.gb_command.specs.Answered.{given_of}
+use Rattle.gb_cli.specs.Answered.{given_of}
 use Rattle.gb_registry.specs.Tables.{tables_of}
 use Rattle.gb_here.proofs.OnDisk.{bounded, built_on_disk, supposed_kept}
 use Rattle.gb_here.proofs.on_disk.run_on_disk.Goals as goal

@@ -4,7 +4,7 @@ use Rattle.gb_folder.specs.Files.{Contents}
 use Rattle.gb_history.specs.Record.{Prints}
 use Rattle.gb_history.specs.declared.decide.Decision.{Decision}
 use Rattle.gb_history.specs.declared.record.OutputRecord.{OutputRecord}
-use Rattle.gb_meaning.specs.Tree.{listing_faults, trees_of}
+use Rattle.gb_semantics.specs.Tree.{listing_faults, trees_of}
 use Rattle.gb_report.specs.declared.fault.Fault.{Fault}
 use Rattle.gb_folder.proofs.Machine.{at_err}
 use Rattle.gb_label.specs.Reading.{CannotRead, Read, digests_in, prints_read, records_with}

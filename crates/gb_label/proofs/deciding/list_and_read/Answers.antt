@@ -2,7 +2,7 @@ use Rattle.std.proofs.Common.{◌≡◌, false, [], IfErr, ap, subst, ◌∙◌,
 use Rattle.std.specs.List.{flat_map}
 use Rattle.std.proofs.lemmas.Result.{err_from_is_err_and, on_ok_weaker}
 use Rattle.gb_folder.specs.Files.{Contents, is_empty}
-use Rattle.gb_meaning.specs.Tree.{listing_faults}
+use Rattle.gb_semantics.specs.Tree.{listing_faults}
 use Rattle.gb_folder.proofs.Machine.{at_err}
 use Rattle.gb_label.specs.Reading.{print_faults}
 use Rattle.gb_folder.proofs.Asked.{requests_nothing, requests_then}

@@ -17,9 +17,9 @@ use Rattle.gb_tree.proofs.Observed.{each_more}
 use Rattle.gb_tree.proofs.Remembering.{known_still, seen_longer}
 use Rattle.gb_tree.specs.Prints.{digests_of}
 use Rattle.gb_tree.specs.Property.{is_under_any}
-use Rattle.gb_tree.specs.Seen.{AreSeenIn}
+use Rattle.gb_tree.specs.DigestCache.{AreCachedIn}
 use Rattle.gb_tree.specs.declared.kept.ScannedFile.{ScannedFile}
-use Rattle.gb_meaning.specs.Tree.{tree_faults, tree_of, input_faults}
+use Rattle.gb_semantics.specs.Tree.{tree_faults, tree_of, input_faults}
 use Rattle.gb_label.specs.ReadingAnswered.{IsInputAnswered}
 use Rattle.gb_label.specs.Reading.{CannotRead, IsPropertyObserved, Read, is_input_of}
 use Rattle.gb_label.proofs.ReadingAnswering.{input_longer}
@@ -70,7 +70,7 @@ loop-property-preserved g c =
     let added = c.in_ok-push.ensures.items in
     let one = c.in_ok-read_one.ensures in
     let x : Read = c.in_ok-read_one.field-0 in
-    let known_now = λ (faithful : g.F.Folder.device.faithful c.read_one.new.folder) (known : AreSeenIn old.files c.args.seen.now). known_still _ _ c.args.seen.now (so_far.same (back faithful)) known in
+    let known_now = λ (faithful : g.F.Folder.device.faithful c.read_one.new.folder) (known : AreCachedIn old.files c.args.seen.now). known_still _ _ c.args.seen.now (so_far.same (back faithful)) known in
     let reported : FileProperty → Prints = λ property. (property.name, digests_of (tree_of property old.files)) in
     record {
       requests = requests_then so_far.requests c.read_one.ensures.reads.requests;

@@ -18,7 +18,7 @@ use Rattle.gb_tree.proofs.Holding.{all_wider}
 use Rattle.gb_tree.proofs.Observed.{each_more}
 use Rattle.gb_tree.proofs.Remembering.{known_still, seen_longer}
 use Rattle.gb_tree.specs.Prints.{digests_of}
-use Rattle.gb_tree.specs.Seen.{AreSeenIn}
+use Rattle.gb_tree.specs.DigestCache.{AreCachedIn}
 use Rattle.gb_tree.specs.Tree.{files_from}
 use Rattle.gb_tree.specs.declared.kept.ScannedFile.{ScannedFile}
 use Rattle.gb_label.specs.ReadingAnswered.{IsOutputAnswered}
@@ -71,7 +71,7 @@ loop-output-preserved g c =
     let added = c.in_ok-push.ensures.items in
     let one = c.in_ok-read_one.ensures in
     let x : Read = c.in_ok-read_one.field-0 in
-    let known_now = λ (faithful : g.F.Folder.device.faithful c.read_one.new.folder) (known : AreSeenIn old.files c.args.seen.now). known_still _ _ c.args.seen.now (so_far.same (back faithful)) known in
+    let known_now = λ (faithful : g.F.Folder.device.faithful c.read_one.new.folder) (known : AreCachedIn old.files c.args.seen.now). known_still _ _ c.args.seen.now (so_far.same (back faithful)) known in
     let reported : Output → Prints = λ output. (recorded_of old.files output).prints in
     record {
       requests = requests_then so_far.requests c.read_one.ensures.reads.requests;

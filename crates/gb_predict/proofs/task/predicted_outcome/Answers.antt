@@ -3,8 +3,8 @@ use Rattle.gb_folder.specs.Files.{Contents, is_empty}
 use Rattle.gb_label.specs.Preparing.{FollowsFromAs, IsPrepared}
 use Rattle.gb_label.specs.Reading.{CannotRead}
 use Rattle.gb_label.specs.declared.prepare.Prepared.{Prepared}
-use Rattle.gb_meaning.specs.Memory.{output_files}
-use Rattle.gb_meaning.specs.Tree.{listing_faults}
+use Rattle.gb_semantics.specs.Memory.{output_files}
+use Rattle.gb_semantics.specs.Tree.{listing_faults}
 use Rattle.gb_predict.specs.Prediction.{IsPredictedOf, IsReasoned}
 use Rattle.gb_predict.specs.declared.predicted_outcome.PredictedOutcome.{PredictedOutcome}
 use Rattle.gb_predict.specs.declared.predicted_outcome.PredictedOutcome.TheVariants as comings

@@ -1,7 +1,7 @@
 use Rattle.std.proofs.Common.{◌≡◌, ◌<◌, ◌≤◌, length, Err, Ok, Some, ap, subst, sym, ◌∙◌, arith}
 use Rattle.gb_folder.specs.Files.{with_file}
 use Rattle.gb_folder.specs.declared.folder.FolderFault.TheVariants as folders
-use Rattle.gb_meaning.specs.Events.{max_record}
+use Rattle.gb_semantics.specs.Events.{max_record}
 use Rattle.gb_history.specs.Places.{record_place}
 use Rattle.gb_history.specs.Text.{record_text}
 use Rattle.gb_records.specs.Called.{storing_ending}

@@ -2,7 +2,7 @@ use Rattle.std.proofs.Common.{◌≡◌, ◌<◌, ◌≤◌, ℕ, List, true, Er
 use Rattle.std.specs.Prelude.{IsSomeAnd, Ok}
 use Rattle.gb_folder.specs.Files.{file_at, is_blocked}
 use Rattle.gb_history.specs.Places.{record_place}
-use Rattle.gb_meaning.specs.Events.{max_record}
+use Rattle.gb_semantics.specs.Events.{max_record}
 use Rattle.gb_records.specs.Texts.{IsTextAt, WasTextAnswered}
 use Rattle.gb_records.proofs.Calls.{read_of, placeless_read}
 use Rattle.gb_records.proofs.Answering.{none_placed, none_existed}

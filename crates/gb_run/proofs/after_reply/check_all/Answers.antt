@@ -10,7 +10,7 @@ use Rattle.gb_folder.specs.Files.{Bytes}
 use Rattle.gb_report.specs.declared.fault.Fault.{Fault}
 use Rattle.gb_report.specs.declared.fault.Fault.TheVariants as faults
 use Rattle.gb_folder.proofs.Machine.{at_err}
-use Rattle.gb_meaning.specs.Made.{file_faults}
+use Rattle.gb_semantics.specs.Made.{file_faults}
 use Rattle.gb_run.proofs.Placed.{first_more}
 use Rattle.gb_run.specs.Named.{files_left, left_in}
 use Rattle.gb_run.specs.ChangeTexts.{steps_in}

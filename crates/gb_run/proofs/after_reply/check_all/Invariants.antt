@@ -5,7 +5,7 @@ use Rattle.std.specs.List.{flat_map}
 use Rattle.std.specs.Option.{option_copied}
 use Rattle.std.specs.declared.string.String.{String}
 use Rattle.gb_folder.specs.Files.{Bytes}
-use Rattle.gb_meaning.specs.Made.{file_faults}
+use Rattle.gb_semantics.specs.Made.{file_faults}
 use Rattle.gb_run.specs.Named.{files_left}
 use Rattle.gb_run.specs.ChangeTexts.{steps_in}
 use Rattle.gb_run.proofs.after_reply.check_all.Given as goal

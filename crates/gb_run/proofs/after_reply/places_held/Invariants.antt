@@ -4,7 +4,7 @@ use Rattle.std.specs.Global.{Global}
 use Rattle.std.specs.Option.{option_copied}
 use Rattle.std.specs.declared.string.String.{String}
 use Rattle.gb_folder.specs.Files.{Bytes}
-use Rattle.gb_meaning.specs.Made.{put_over}
+use Rattle.gb_semantics.specs.Made.{put_over}
 use Rattle.gb_run.specs.Placing.{blank}
 use Rattle.gb_run.specs.Named.{files_left}
 use Rattle.gb_run.specs.ChangeTexts.{steps_in}

@@ -2,9 +2,9 @@ use Rattle.std.proofs.Common.{◌≡◌}
 use Rattle.std.specs.List.{AllByRecursion}
 use Rattle.std.specs.VecDeque.Iter.{deque_iter_rest}
 use Rattle.gb_plan.specs.Ready.{IsReadyAction}
-use Rattle.gb_meaning.specs.Headline.{Agrees}
-use Rattle.gb_meaning.specs.Kinds.{Kinds}
-use Rattle.gb_meaning.specs.Label.{has_one_writer}
+use Rattle.gb_semantics.specs.Headline.{Agrees}
+use Rattle.gb_semantics.specs.Kinds.{Kinds}
+use Rattle.gb_semantics.specs.Label.{has_one_writer}
 use Rattle.gb_run.specs.AskingChanges.{CanGoOn}
 use Rattle.gb_run.proofs.OneWriter.{only}
 use Rattle.gb_run.proofs.calling_changes.has_one_writer.Given as goal

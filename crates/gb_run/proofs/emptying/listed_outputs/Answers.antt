@@ -23,7 +23,7 @@ use Rattle.gb_tree.specs.declared.fault.TreeFault.TheVariants as trees
 use Rattle.gb_folder.specs.Faults.{IsOfMachine}
 use Rattle.gb_folder.proofs.Machine.{at_err, machine_before}
 use Rattle.gb_folder.proofs.Loops.{any_here, step_here}
-use Rattle.gb_meaning.specs.Tree.{reported_of_tree}
+use Rattle.gb_semantics.specs.Tree.{reported_of_tree}
 use Rattle.gb_run.specs.Work.{ending}
 use Rattle.gb_run.proofs.Listed.{listing_failed, listing_lost, listing_more}
 use Rattle.gb_run.specs.Emptying.{Listing, is_at_output, special_faults, places_at}

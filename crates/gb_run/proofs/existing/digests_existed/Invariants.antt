@@ -1,7 +1,7 @@
 use Rattle.std.proofs.Common.{◌≡◌, []}
 use Rattle.std.specs.Iterator.Adapters.{zip_first, zip_second}
 use Rattle.std.specs.Slice.Iter.{iter_rest}
-use Rattle.gb_meaning.specs.Made.{put_over}
+use Rattle.gb_semantics.specs.Made.{put_over}
 use Rattle.gb_run.specs.ChangeDigests.{at_places, digests_at}
 use Rattle.gb_run.proofs.existing.digests_existed.Given as goal
 

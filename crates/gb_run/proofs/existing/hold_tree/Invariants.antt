@@ -1,6 +1,6 @@
 use Rattle.std.proofs.Common.{◌≡◌, drop, map, List, ℕ}
 use Rattle.gb_core.specs.Place.{beneath}
-use Rattle.gb_meaning.specs.Made.{put_over}
+use Rattle.gb_semantics.specs.Made.{put_over}
 use Rattle.gb_run.specs.ChangeDigests.{at_places}
 use Rattle.gb_run.proofs.existing.hold_tree.Given as goal
 

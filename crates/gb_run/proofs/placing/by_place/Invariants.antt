@@ -1,6 +1,6 @@
 use Rattle.std.proofs.Common.{◌≡◌, []}
 use Rattle.std.specs.Vec.Iter.{into_iter_items}
-use Rattle.gb_meaning.specs.Made.{placed, put_over}
+use Rattle.gb_semantics.specs.Made.{placed, put_over}
 use Rattle.gb_run.specs.Texts.{files_in}
 use Rattle.gb_run.proofs.placing.by_place.Given as goal
 

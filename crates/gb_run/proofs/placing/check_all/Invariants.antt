@@ -3,7 +3,7 @@ use Rattle.std.specs.Global.{Global}
 use Rattle.std.specs.List.{flat_map}
 use Rattle.std.specs.declared.string.String.{String}
 use Rattle.gb_folder.specs.Files.{Bytes}
-use Rattle.gb_meaning.specs.Made.{file_faults}
+use Rattle.gb_semantics.specs.Made.{file_faults}
 use Rattle.gb_run.specs.Named.{put}
 use Rattle.gb_run.specs.Texts.{files_in}
 use Rattle.gb_run.proofs.placing.check_all.Given as goal

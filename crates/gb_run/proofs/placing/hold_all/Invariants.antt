@@ -2,7 +2,7 @@ use Rattle.std.proofs.Common.{◌≡◌, map, string_bytes}
 use Rattle.std.specs.Global.{Global}
 use Rattle.std.specs.declared.string.String.{String}
 use Rattle.gb_folder.specs.Files.{Bytes}
-use Rattle.gb_meaning.specs.Made.{put_over}
+use Rattle.gb_semantics.specs.Made.{put_over}
 use Rattle.gb_run.specs.Placing.{blank}
 use Rattle.gb_run.specs.Texts.{files_in}
 use Rattle.gb_run.proofs.placing.hold_all.Given as goal

@@ -1,5 +1,5 @@
 use Rattle.std.proofs.Common.{◌≡◌, drop}
-use Rattle.gb_meaning.specs.Made.{output_named}
+use Rattle.gb_semantics.specs.Made.{output_named}
 use Rattle.gb_run.proofs.placing.output_named.Given as goal
 
 abbrev pub invariant-loop-output : goal.invariant-loop-output

@@ -5,7 +5,7 @@ use Rattle.gb_folder.specs.Files.{Files, are_placed}
 use Rattle.gb_report.specs.declared.fault.Fault.{Fault}
 use Rattle.gb_report.specs.declared.fault.Fault.TheVariants as faults
 use Rattle.gb_folder.proofs.Machine.{at_err}
-use Rattle.gb_meaning.specs.Made.{placed, put_over}
+use Rattle.gb_semantics.specs.Made.{placed, put_over}
 use Rattle.gb_run.specs.Placing.{blank, count_faults, faults_beside}
 use Rattle.gb_run.specs.Texts.{files_in}
 use Rattle.gb_run.proofs.Placed.{beside_is, first_more, placed_over}

@@ -10,9 +10,9 @@ use Rattle.gb_tree.specs.Prints.{digests_of}
 use Rattle.gb_plan.specs.Task.{Text}
 use Rattle.gb_plan.specs.declared.task.Output.{Output}
 use Rattle.gb_folder.proofs.Machine.{at_err}
-use Rattle.gb_meaning.specs.Headline.{Agrees}
-use Rattle.gb_meaning.specs.Kinds.{Kinds, kind_of}
-use Rattle.gb_meaning.specs.Made.{placed, put_over, put_result}
+use Rattle.gb_semantics.specs.Headline.{Agrees}
+use Rattle.gb_semantics.specs.Kinds.{Kinds, kind_of}
+use Rattle.gb_semantics.specs.Made.{placed, put_over, put_result}
 use Rattle.gb_run.specs.Named.{put}
 use Rattle.gb_run.specs.Steps.{Step, after_steps}
 use Rattle.gb_run.proofs.AsSteps.{after_put, all_put}

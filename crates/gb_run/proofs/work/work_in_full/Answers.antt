@@ -15,9 +15,9 @@ use Rattle.gb_plan.specs.Ready.{IsReadyAction}
 use Rattle.gb_plan.specs.declared.task.Action.{Action}
 use Rattle.gb_plan.specs.declared.task.Output.{Output}
 use Rattle.gb_plan.specs.Task.{is_output_of}
-use Rattle.gb_meaning.specs.Headline.{Agrees}
-use Rattle.gb_meaning.specs.Kinds.{Kinds, kind_of}
-use Rattle.gb_meaning.specs.Made.{put_result}
+use Rattle.gb_semantics.specs.Headline.{Agrees}
+use Rattle.gb_semantics.specs.Kinds.{Kinds, kind_of}
+use Rattle.gb_semantics.specs.Made.{put_result}
 use Rattle.gb_run.specs.Asking.{IsFullRequest}
 use Rattle.gb_run.specs.RunInput.{run_input}
 use Rattle.gb_run.proofs.Endings.{none_left}

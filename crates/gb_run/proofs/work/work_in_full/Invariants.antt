@@ -4,8 +4,8 @@ use Rattle.std.specs.VecDeque.Iter.{deque_iter_rest}
 use Rattle.gb_folder.specs.Files.{are_placed}
 use Rattle.gb_plan.specs.Ready.{IsReadyAction}
 use Rattle.gb_plan.specs.Task.{is_output_of}
-use Rattle.gb_meaning.specs.Headline.{Agrees}
-use Rattle.gb_meaning.specs.Kinds.{Kinds}
+use Rattle.gb_semantics.specs.Headline.{Agrees}
+use Rattle.gb_semantics.specs.Kinds.{Kinds}
 use Rattle.gb_run.specs.Asking.{IsFullRequest}
 use Rattle.gb_run.specs.RunInput.{run_input}
 use Rattle.gb_run.specs.Worked.{AreStepsAt}

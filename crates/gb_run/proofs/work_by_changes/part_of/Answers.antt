@@ -7,8 +7,8 @@ use Rattle.gb_plan.specs.Ready.{IsReadyAction, Rows}
 use Rattle.gb_plan.specs.Task.{is_output_of}
 use Rattle.gb_plan.specs.declared.task.Action.{Action}
 use Rattle.gb_plan.specs.declared.task.TaskDeclaration.{TaskDeclaration as Task}
-use Rattle.gb_meaning.specs.Headline.{Agrees}
-use Rattle.gb_meaning.specs.Kinds.{Kinds, kind_of}
+use Rattle.gb_semantics.specs.Headline.{Agrees}
+use Rattle.gb_semantics.specs.Kinds.{Kinds, kind_of}
 use Rattle.gb_run.specs.AskingChanges.{writes_stored}
 use Rattle.gb_run.specs.Steps.{Step}
 use Rattle.gb_run.specs.Worked.{AreStepsAt}

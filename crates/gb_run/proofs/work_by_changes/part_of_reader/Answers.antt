@@ -1,5 +1,5 @@
 use Rattle.std.proofs.Common.{◌≡◌, Ok, refl, ap, sym, ◌∙◌}
-use Rattle.gb_meaning.specs.Kinds.{kind_of}
+use Rattle.gb_semantics.specs.Kinds.{kind_of}
 use Rattle.gb_run.specs.Asking.{made_by}
 use Rattle.gb_run.proofs.Writer.{writes_none}
 use Rattle.gb_run.proofs.work_by_changes.part_of_reader.Goals as goal

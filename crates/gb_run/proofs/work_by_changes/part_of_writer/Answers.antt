@@ -6,9 +6,9 @@ use Rattle.gb_report.specs.declared.fault.Fault.TheVariants as faults
 use Rattle.gb_action.specs.declared.request.Request.{Request}
 use Rattle.gb_tree.specs.Prints.{digests_of}
 use Rattle.gb_folder.proofs.Machine.{at_err}
-use Rattle.gb_meaning.specs.Headline.{Agrees}
-use Rattle.gb_meaning.specs.Kinds.{Kinds, kind_of}
-use Rattle.gb_meaning.specs.Memory.{output_files}
+use Rattle.gb_semantics.specs.Headline.{Agrees}
+use Rattle.gb_semantics.specs.Kinds.{Kinds, kind_of}
+use Rattle.gb_semantics.specs.Memory.{output_files}
 use Rattle.gb_run.specs.Named.{held_after}
 use Rattle.gb_run.specs.Steps.{Step, after_steps}
 use Rattle.gb_run.specs.WorkByChanges.{FailsWith, increment_of}

@@ -7,8 +7,8 @@ use Rattle.gb_action.specs.Files.{Trees}
 use Rattle.gb_folder.specs.Files.{Files, are_placed}
 use Rattle.gb_plan.specs.Ready.{IsReadyAction}
 use Rattle.gb_plan.specs.Task.{is_output_of}
-use Rattle.gb_meaning.specs.Headline.{Agrees}
-use Rattle.gb_meaning.specs.Kinds.{Kinds}
+use Rattle.gb_semantics.specs.Headline.{Agrees}
+use Rattle.gb_semantics.specs.Kinds.{Kinds}
 use Rattle.gb_run.specs.Asking.{IsFullRequest}
 use Rattle.gb_run.specs.AskingChanges.{CanGoOn, GoesOn}
 use Rattle.gb_run.specs.WorkByChanges.{increment_of}

@@ -2,7 +2,7 @@ use Rattle.std.proofs.Common.{◌≡◌, ◌∙◌, [], List, Result, Ok, Err, I
 use Rattle.gb_action.specs.Changes.{changes_between}
 use Rattle.gb_action.specs.Files.{Tree}
 use Rattle.gb_action.specs.declared.change.Change.{Change}
-use Rattle.gb_meaning.proofs.Common.{none_some}
+use Rattle.gb_semantics.proofs.Common.{none_some}
 use Rattle.gb_tree.specs.Prints.{AreCollisionFree, digests_of}
 use Rattle.gb_task.proofs.adding.added.Goals as goal
 

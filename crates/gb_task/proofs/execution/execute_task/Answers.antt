@@ -2,7 +2,7 @@ use Rattle.std.specs.Prelude.{option_copied}
 use Rattle.std.proofs.Common.{◌≡◌, ◌≤◌, ℕ, Bool, List, sym, subst, ◌∙◌}
 use Rattle.gb_folder.specs.Files.{Contents}
 use Rattle.gb_label.specs.Preparing.{IsObservedFor}
-use Rattle.gb_meaning.specs.Label.{Moment}
+use Rattle.gb_semantics.specs.Label.{Moment}
 use Rattle.gb_task.specs.ByOutcome.{since_after}
 use Rattle.gb_task.specs.Executing.{BeginsAt, HasExecuted, setting_with}
 use Rattle.gb_task.proofs.ByOutcome.{cleared_requests, ran_requests, reported_requests}

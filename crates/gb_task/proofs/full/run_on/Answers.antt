@@ -5,7 +5,7 @@ use Rattle.gb_folder.specs.Files.{Contents, Files}
 use Rattle.gb_folder.proofs.Changes.{SameTearing-chain}
 use Rattle.gb_history.specs.Record.{Record}
 use Rattle.gb_history.specs.Text.{record_text}
-use Rattle.gb_meaning.specs.Memory.{recalled}
+use Rattle.gb_semantics.specs.Memory.{recalled}
 use Rattle.gb_records.specs.Said.{IsSaidOf}
 use Rattle.gb_report.specs.declared.fault.Fault.{Fault}
 use Rattle.gb_report.specs.declared.fault.Fault.TheVariants as faults

@@ -1,7 +1,7 @@
 use Rattle.std.proofs.Common.{◌≡◌, not, arith, rules, sym, subst}
 use Rattle.gb_folder.specs.Files.{is_empty}
 use Rattle.gb_folder.proofs.Elsewhere.{taken_there}
-use Rattle.gb_meaning.specs.Memory.{recalled}
+use Rattle.gb_semantics.specs.Memory.{recalled}
 use Rattle.gb_report.specs.declared.report.TaskReport.{TaskReport}
 use Rattle.gb_task.specs.Executing.{HasExecuted, setting_with}
 use Rattle.gb_task.proofs.Emptied.{cleared_execution}

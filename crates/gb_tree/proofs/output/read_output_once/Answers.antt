@@ -6,7 +6,7 @@ use Rattle.gb_folder.proofs.Asked.{requests_nothing, requests_then}
 use Rattle.gb_folder.specs.Files.{Contents, Place}
 use Rattle.gb_tree.specs.Answered.{AreOutputEntriesListed, WereObserved}
 use Rattle.gb_tree.specs.Reading.{IsObservedIn, digests_observed, entries_observed}
-use Rattle.gb_tree.specs.Seen.{AreSeenIn}
+use Rattle.gb_tree.specs.DigestCache.{AreCachedIn}
 use Rattle.gb_tree.specs.Tree.{Entries, IsRefused, is_among, output_entries, output_faults, output_listing_faults, too_large}
 use Rattle.gb_tree.specs.declared.kept.ScannedFile.{ScannedFile}
 use Rattle.gb_tree.proofs.Answering.{output_entries_longer}
@@ -29,7 +29,7 @@ returns-in_err-observed-clause-err g c = λ faithful known.
     let listing = output_listing_faults name root old in
     at_err (λ r. IfErr r (λ fault. IsRefused (failures c.args.folder.now) (failures c.scan_all.new.folder) (listing ++ too_large old.files entries) fault)) c.from_residual-in_err-observed.result p.0 c.in_err-observed.field-0.0 p.1 p.2
     (refused_reading (failures c.args.folder.now) _ _ old _ listing entries c.as_slice.result.now c.in_err-observed.field-0.0 (c.in_ok-entries.ensures.reads.same before) (c.as_slice.ensures.value ∙ c.in_ok-entries.ensures.entries before)
-    c.in_ok-entries.ensures.reads.requests.count c.in_err-observed.ensures.reads.requests.count (c.in_ok-entries.ensures.fit before) (outputs_exist old.files root) (c.in_err-observed.ensures.err faithful (subst (λ (now : Contents). AreSeenIn now.files c.args.seen.now) (sym (c.in_ok-entries.ensures.reads.same before)) known)))
+    c.in_ok-entries.ensures.reads.requests.count c.in_err-observed.ensures.reads.requests.count (c.in_ok-entries.ensures.fit before) (outputs_exist old.files root) (c.in_err-observed.ensures.err faithful (subst (λ (now : Contents). AreCachedIn now.files c.args.seen.now) (sym (c.in_ok-entries.ensures.reads.same before)) known)))
 
 pub returns-in_err-entries-clause-blame : goal.returns-in_err-entries-clause-blame
 returns-in_err-entries-clause-blame g c =
@@ -82,5 +82,5 @@ returns-clause-digests g c = λ faithful known.
     ap (λ (reading : List ℕ × List ScannedFile). digests_observed reading.1) c.new.ensures
     ∙ observed_digests files (output_entries files c.args.place.now) observed (record {
       placed = c.in_ok-observed.ensures.placed ∙ c.as_slice.ensures.value ∙ c.in_ok-entries.ensures.entries before;
-      each = subst (λ (now : Contents). AllByRecursion (IsObservedIn now.files) observed) (c.in_ok-entries.ensures.reads.same before) (c.in_ok-observed.ensures.observed faithful (subst (λ (now : Contents). AreSeenIn now.files c.args.seen.now) (sym (c.in_ok-entries.ensures.reads.same before)) known));
+      each = subst (λ (now : Contents). AllByRecursion (IsObservedIn now.files) observed) (c.in_ok-entries.ensures.reads.same before) (c.in_ok-observed.ensures.observed faithful (subst (λ (now : Contents). AreCachedIn now.files c.args.seen.now) (sym (c.in_ok-entries.ensures.reads.same before)) known));
     })

@@ -6,7 +6,7 @@ use Rattle.gb_folder.specs.Files.{Contents, Place}
 use Rattle.gb_tree.specs.Answered.{AreEntriesListed, WereObserved}
 use Rattle.gb_tree.specs.Property.{entries_of, entry_faults, is_under_any, tree_faults}
 use Rattle.gb_tree.specs.Reading.{IsObservedIn, digests_observed, entries_observed}
-use Rattle.gb_tree.specs.Seen.{AreSeenIn}
+use Rattle.gb_tree.specs.DigestCache.{AreCachedIn}
 use Rattle.gb_tree.specs.Tree.{Entries, IsRefused, is_among, too_large}
 use Rattle.gb_tree.specs.declared.kept.ScannedFile.{ScannedFile}
 use Rattle.gb_tree.proofs.Found.{found_exist}
@@ -31,7 +31,7 @@ returns-in_err-observed-clause-err g c = λ faithful known.
     let listing = entry_faults c.args.name.now c.args.naming roots include exclude old in
     at_err (λ r. IfErr r (λ fault. IsRefused (failures c.args.folder.now) (failures c.scan_all.new.folder) (listing ++ too_large old.files entries) fault)) c.from_residual-in_err-observed.result p.0 c.in_err-observed.field-0.0 p.1 p.2
     (refused_reading (failures c.args.folder.now) _ _ old _ listing entries c.as_slice.result.now c.in_err-observed.field-0.0 (c.in_ok-entries.ensures.reads.same before) (c.as_slice.ensures.value ∙ c.in_ok-entries.ensures.entries before)
-    c.in_ok-entries.ensures.reads.requests.count c.in_err-observed.ensures.reads.requests.count (c.in_ok-entries.ensures.fit before) (found_exist c.args.naming roots include exclude old.files) (c.in_err-observed.ensures.err faithful (subst (λ (now : Contents). AreSeenIn now.files c.args.seen.now) (sym (c.in_ok-entries.ensures.reads.same before)) known)))
+    c.in_ok-entries.ensures.reads.requests.count c.in_err-observed.ensures.reads.requests.count (c.in_ok-entries.ensures.fit before) (found_exist c.args.naming roots include exclude old.files) (c.in_err-observed.ensures.err faithful (subst (λ (now : Contents). AreCachedIn now.files c.args.seen.now) (sym (c.in_ok-entries.ensures.reads.same before)) known)))
 
 pub returns-in_err-entries-clause-blame : goal.returns-in_err-entries-clause-blame
 returns-in_err-entries-clause-blame g c =
@@ -90,5 +90,5 @@ returns-clause-digests g c = λ faithful known.
     ∙ observed_digests files (entries_of c.args.naming c.args.roots.now c.args.include.now c.args.exclude.now files) observed (record {
       placed = c.in_ok-observed.ensures.placed ∙ c.as_slice.ensures.value ∙ c.in_ok-entries.ensures.entries before;
       each = subst (λ (now : Contents). AllByRecursion (IsObservedIn now.files) observed) same
-          (c.in_ok-observed.ensures.observed faithful (subst (λ (now : Contents). AreSeenIn now.files c.args.seen.now) (sym same) known));
+          (c.in_ok-observed.ensures.observed faithful (subst (λ (now : Contents). AreCachedIn now.files c.args.seen.now) (sym same) known));
     })

@@ -7,7 +7,7 @@ use Rattle.gb_folder.proofs.Asked.{requests_nothing, requests_then}
 use Rattle.gb_folder.specs.Files.{Contents, Place, file_at}
 use Rattle.gb_tree.specs.Answered.{WasObserved}
 use Rattle.gb_tree.specs.Reading.{IsReading, IsObservedIn, is_digest_of}
-use Rattle.gb_tree.specs.Seen.{AreSeenIn}
+use Rattle.gb_tree.specs.DigestCache.{AreCachedIn}
 use Rattle.gb_tree.specs.Tree.{is_among, is_large, too_large}
 use Rattle.gb_tree.specs.Waiting.{file_in, waiting_files}
 use Rattle.gb_tree.specs.declared.fault.TreeFault.TheVariants as faults
@@ -64,8 +64,8 @@ loop-path-preserved g c =
     let is = c.loop-path-item.is in
     let added = c.in_ok-waiting.ensures in
     let seen = c.args.seen.now in
-    let is_observed : g.F.Folder.device.faithful c.find_file.new.folder → AreSeenIn files seen → IsObservedIn files x = λ faithful known. subst (λ (now : Contents). IsObservedIn now.files x) (old.invariant.same (back faithful))
-    (c.in-Ok.ensures.observed faithful (subst (λ (now : Contents). AreSeenIn now.files seen) (sym (old.invariant.same (back faithful))) known)) in
+    let is_observed : g.F.Folder.device.faithful c.find_file.new.folder → AreCachedIn files seen → IsObservedIn files x = λ faithful known. subst (λ (now : Contents). IsObservedIn now.files x) (old.invariant.same (back faithful))
+    (c.in-Ok.ensures.observed faithful (subst (λ (now : Contents). AreCachedIn now.files seen) (sym (old.invariant.same (back faithful))) known)) in
     record {
       requests = requests_then old.invariant.requests c.find_file.ensures.reads.requests;
       back = λ faithful. old.invariant.back (back faithful);

@@ -4,7 +4,7 @@ use Rattle.gb_core.specs.Lists.{first_of}
 use Rattle.gb_folder.specs.Calls.{Requests, no_change}
 use Rattle.gb_tree.specs.Answered.{WereObserved}
 use Rattle.gb_tree.specs.Reading.{IsObservedIn, entries_observed, is_digest_of}
-use Rattle.gb_tree.specs.Seen.{AreSeen, AreSeenIn}
+use Rattle.gb_tree.specs.DigestCache.{AreCached, AreCachedIn}
 use Rattle.gb_tree.specs.Tree.{too_large}
 use Rattle.gb_tree.specs.Waiting.{waiting_files}
 use Rattle.gb_tree.proofs.scanning.scan_all.Given as goal
@@ -19,10 +19,10 @@ invariant-loop-path g l =
       back : g.F.Folder.device.faithful l.folder → g.F.Folder.device.faithful l.fn.folder;
       same : g.F.Folder.device.faithful l.folder → contents l.folder ≡ contents l.fn.folder;
       answered : (first : _) → Requests g.F.Folder.device no_change first l.fn.folder
-          → AreSeen g.F.Folder.device first l.fn.folder l.seen
+          → AreCached g.F.Folder.device first l.fn.folder l.seen
           → WereObserved g.F.Folder.device first l.folder read;
       placed : entries_observed read ≡ take l.path-index l.entries;
       digested : IsTrue (list_all (λ file. is_digest_of file.kept file.digest) read);
-      each : g.F.Folder.device.faithful l.folder → AreSeenIn old l.seen → AllByRecursion (IsObservedIn old) read;
-      large : g.F.Folder.device.faithful l.folder → AreSeenIn old l.seen → first_of (too_large old (drop l.path-index l.entries)) ≡ first_of (too_large old l.entries);
+      each : g.F.Folder.device.faithful l.folder → AreCachedIn old l.seen → AllByRecursion (IsObservedIn old) read;
+      large : g.F.Folder.device.faithful l.folder → AreCachedIn old l.seen → first_of (too_large old (drop l.path-index l.entries)) ≡ first_of (too_large old l.entries);
     }

@@ -1,6 +1,6 @@
 use mathlib.Core.Path.{fun_ext}
 use Rattle.std.proofs.Common.{refl, subst}
-use Rattle.gb_action.specs.declared.output.Form.TheVariants.{Dir}
+use Rattle.gb_action.specs.declared.output_files.Form.TheVariants.{Dir}
 use Rattle.gb_action.proofs.Asked.{declares_target}
 use Rattle.gb_kinds.specs.Builtin.{of_files}
 use Rattle.gb_kinds.specs.ByFile.{IsByFile}

@@ -1,5 +1,0 @@
-use Rattle.gb_history.proofs.OneText.{one_text}
-use Rattle.gb_history.proofs.record_text.texts_say_one_record.Goals as goal
-
-pub returns : goal.returns
-returns c = one_text

@@ -1,5 +1,0 @@
-use Rattle.gb_meaning.proofs.Lemmas.Plain.{plain}
-use Rattle.gb_meaning.proofs.laws.clear_run_is_unconditional.Goals as goal
-
-pub returns : goal.returns
-returns c = λ returned. plain _

@@ -1,5 +1,0 @@
-use Rattle.gb_meaning.proofs.Lemmas.Sessions.{sessions as law}
-use Rattle.gb_meaning.proofs.laws.headline_of_sessions.Goals as goal
-
-pub returns : goal.returns
-returns c = λ returned. law _ _ _

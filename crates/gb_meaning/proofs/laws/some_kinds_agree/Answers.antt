@@ -1,5 +1,0 @@
-use Rattle.gb_meaning.proofs.Lemmas.Agreeing.{some_agree as law}
-use Rattle.gb_meaning.proofs.laws.some_kinds_agree.Goals as goal
-
-pub returns : goal.returns
-returns c = λ returned. law _

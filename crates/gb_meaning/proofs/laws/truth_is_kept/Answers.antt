@@ -1,5 +1,0 @@
-use Rattle.gb_meaning.proofs.Lemmas.Whole.{truth}
-use Rattle.gb_meaning.proofs.laws.truth_is_kept.Goals as goal
-
-pub returns : goal.returns
-returns c = truth

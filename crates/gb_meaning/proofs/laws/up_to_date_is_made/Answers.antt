@@ -1,5 +1,0 @@
-use Rattle.gb_meaning.proofs.Lemmas.Current.{up_to_date as law}
-use Rattle.gb_meaning.proofs.laws.up_to_date_is_made.Goals as goal
-
-pub returns : goal.returns
-returns c = law

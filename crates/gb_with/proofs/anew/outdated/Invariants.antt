@@ -1,6 +1,0 @@
-use Rattle.std.proofs.Common.{◌≡◌, take}
-use Rattle.gb_with.specs.Anew.{made_no_more}
-use Rattle.gb_with.proofs.anew.outdated.Given as goal
-
-abbrev pub invariant-loop-path : goal.invariant-loop-path
-invariant-loop-path l = l.removes ≡ made_no_more (take l.path-index l.existed) l.made.entries

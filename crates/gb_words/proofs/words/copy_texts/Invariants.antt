@@ -1,6 +1,0 @@
-use Rattle.std.proofs.Common.{◌≡◌, take}
-use Rattle.gb_words.specs.Values.{texts_after}
-use Rattle.gb_words.proofs.words.copy_texts.Given as goal
-
-abbrev pub invariant-loop-text : goal.invariant-loop-text
-invariant-loop-text l = l.copied ≡ texts_after (take l.text-index l.texts)
