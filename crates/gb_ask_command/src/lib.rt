@@ -1,9 +1,9 @@
 //! What `gb_ask` prints: the outcome of each task in a build and why it would be executed, which
 //! tasks there are, what is wrong with them, the plan as a picture, and the layout of scripts.
 //!
-//! Each question is a function `run` over any folder, in a module with its name; `reads` and `makes`
-//! are `places`. None has a premise. It reads the scripts as a build does, and takes its answer from
-//! a crate below: `gb_predict`, `gb_check`, `gb_query`, `gb_picture` or `gb_format`.
+//! Each question is a function `run` over any folder, in a module with its name; `reads` and
+//! `makes` are in `place_query`. None has a premise. It reads the scripts as a build does, and takes
+//! its answer from a crate below: `gb_predict`, `gb_check`, `gb_query`, `gb_picture`, `gb_format`.
 //!
 //! All but `fmt --write` ask for no change (`requests`, `same`), and `reported` says what is
 //! printed: the arguments are refused, or they ask for something and this is the text of it or a
@@ -19,7 +19,7 @@
 //!   and is finalized by (`IsNodeOf`). With `--why` a task has the colour of the prediction that is
 //!   for it and in its place (`with_tints`), of those that `why` has for the request, or of none
 //!   (`ArePredicted`).
-//! - `places`: what `search` of `gb_query` finds of the one place that the arguments name.
+//! - `place_query`: what `search` of `gb_query` finds of the one place that the arguments name.
 //! - `status`: what `inventory` of `gb_query` has, after whether a build runs. The program finds
 //!   that out by trying the lock, and passes it on.
 //! - `check`: what `find` of `gb_check` finds, as lines or in JSON (`IsCheckText`), faults first. Of

@@ -8,14 +8,14 @@
 //! checked. The cost: all files that one task makes are in memory until they are written. No call
 //! has a premise about the folder.
 //!
-//! [`run::run_in_full`] starts from emptied outputs. The files of an action are checked by place,
+//! [`full_work::run_in_full`] starts from emptied outputs. An action's files are checked by place,
 //! together with those of the actions before it, and written by place, in whatever order the action
 //! lists them. Rejected: to ask the folder before each write whether it can be done, since that
 //! would be a second access for each file. So an action one of whose writes is refused may leave
 //! some of its first files.
 //!
-//! [`by_changes::run_by_changes`] starts from the files at the outputs, if they were made of the
-//! inputs as they were. The one action that writes (`has_one_writer`) gets a request for the
+//! [`incremental_work::run_by_changes`] starts from the files at the outputs, if they were made of
+//! the inputs as they were. The one action that writes (`has_one_writer`) gets a request for the
 //! changes alone, and only the places that its reply names are touched. All that the task then
 //! holds is checked. So if the actions are at fault, the fault is that of a full run. Rejected: to
 //! empty the outputs first, which would lose right files if the run is stopped.
